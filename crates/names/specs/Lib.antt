@@ -1,0 +1,3 @@
+pub mod Radix
+pub mod Dates
+pub mod Steps

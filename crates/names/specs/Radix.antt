@@ -1,0 +1,103 @@
+-- Names (document 01, "Names and dates"): Radix-50 words and the text that they spell. Text is a list of bytes.
+use Prim.Native.Nat.{ℕ, zero, suc, _+_, _*_, _/_, _%_}
+use mathlib.Core.Bool.{Bool, true, cond, _&&_, _||_}
+use mathlib.Core.List.{List, [], _∷_, _++_}
+use lib.ListN.{length, getD, take, drop, replicate}
+use lib.Dec.{eqb, leb}
+use Rattle.names.specs.declared.radix.NameWords.{NameWords}
+use Rattle.names.specs.declared.radix.NameText.{NameText}
+
+-- the bytes of a space, of A and Z, of 0 and 9
+abbrev pub space : ℕ
+space = 32
+
+abbrev pub isLetter : ℕ → Bool
+isLetter b = leb 65 b && leb b 90
+
+abbrev pub isDigit : ℕ → Bool
+isDigit b = leb 48 b && leb b 57
+
+-- Radix-50: the byte shown for each code: space 0, A to Z 1 to 26, $ 27, . 28, 29 unused and shown as ?, digits 30 to 39
+unfoldable pub alphabet : List ℕ
+alphabet =
+    space
+    ∷ 65 ∷ 66 ∷ 67 ∷ 68 ∷ 69 ∷ 70 ∷ 71 ∷ 72 ∷ 73 ∷ 74 ∷ 75 ∷ 76 ∷ 77
+    ∷ 78 ∷ 79 ∷ 80 ∷ 81 ∷ 82 ∷ 83 ∷ 84 ∷ 85 ∷ 86 ∷ 87 ∷ 88 ∷ 89 ∷ 90
+    ∷ 36 ∷ 46 ∷ 63
+    ∷ 48 ∷ 49 ∷ 50 ∷ 51 ∷ 52 ∷ 53 ∷ 54 ∷ 55 ∷ 56 ∷ 57
+    ∷ []
+
+unfoldable pub shown : ℕ → ℕ
+shown code = getD alphabet code 0
+
+-- the place of a byte in a list, or the list's length where it has none
+unfoldable pub place : ℕ → List ℕ → ℕ
+place b [] = 0
+place b (x ∷ xs) = let r = place b xs in cond (eqb x b) 0 (suc r)
+
+-- the code of a byte: its place in the alphabet
+unfoldable pub codeOf : ℕ → ℕ
+codeOf b = place b alphabet
+
+-- three characters make first·1600 + second·40 + third
+unfoldable pub packed : ℕ → ℕ → ℕ → ℕ
+packed x y z = codeOf x * 1600 + codeOf y * 40 + codeOf z
+
+-- the word of the three characters at a place of a text
+unfoldable pub packedAt : List ℕ → ℕ → ℕ
+packedAt t k = packed (getD t k 0) (getD t (k + 1) 0) (getD t (k + 2) 0)
+
+-- the three characters of a word
+unfoldable pub spelled : ℕ → List ℕ
+spelled w = shown (w / 1600) ∷ shown (w / 40 % 40) ∷ shown (w % 40) ∷ []
+
+unfoldable pub textOf : ℕ → ℕ → ℕ → List ℕ
+textOf a b c = spelled a ++ spelled b ++ spelled c
+
+-- A requested name: only A to Z and 0 to 9
+unfoldable pub inName : ℕ → Bool
+inName b = isLetter b || isDigit b
+
+-- a byte of a requested name's text
+unfoldable pub inText : ℕ → Bool
+inText b = eqb b space || inName b
+
+unfoldable pub blank : List ℕ → Bool
+blank [] = true
+blank (b ∷ bs) = let r = blank bs in eqb b space && r
+
+-- padded right with spaces, none inside
+unfoldable pub padded : List ℕ → Bool
+padded [] = true
+padded (b ∷ bs) = let r = padded bs in cond (eqb b space) (blank bs) (inName b && r)
+
+-- nine bytes: a name of 1 to 6 characters and an extension of 0 to 3
+unfoldable pub legalText : List ℕ → Bool
+legalText t = eqb (length t) 9 && inName (getD t 0 0) && padded (take 6 t) && padded (drop 6 t)
+
+-- a word that spells three characters
+unfoldable pub spells : ℕ → Bool
+spells w = leb w 63999
+
+-- three words in a request: the words of a legal text
+unfoldable pub legalName : ℕ → ℕ → ℕ → Bool
+legalName a b c = spells a && spells b && spells c && legalText (textOf a b c)
+
+-- Illegal text answers 7 and zero words
+unfoldable pub wordsOfText : List ℕ → NameWords
+wordsOfText t =
+    cond (legalText t)
+    (record {
+      number = 0;
+      first = packedAt t 0;
+      second = packedAt t 3;
+      extension = packedAt t 6;
+    })
+    (record { number = 7; first = 0; second = 0; extension = 0 })
+
+-- three words with one above 63,999 answer 7 and blanks
+unfoldable pub textOfWords : ℕ → ℕ → ℕ → NameText
+textOfWords a b c =
+    cond (spells a && spells b && spells c)
+    (record { number = 0; text = textOf a b c })
+    (record { number = 7; text = replicate 9 space })
