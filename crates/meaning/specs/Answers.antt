@@ -1,0 +1,79 @@
+-- What a request gives (document 01, "Requests"): the answer, and the words after. Refusals and success, once for all requests.
+use Prim.Native.Nat.{ℕ, zero, suc, _+_}
+use mathlib.Core.Bool.{Bool, true, false, cond, _&&_}
+use mathlib.Core.List.{List, [], _∷_}
+use mathlib.Core.Option.{Option, none, some}
+use lib.ListN.{getD, set}
+use lib.Dec.{eqb}
+use Rattle.meaning.specs.declared.Answer.{Answer}
+use Rattle.meaning.specs.Kinds.{isTentative, isPermanent}
+use Rattle.meaning.specs.Words.{Entry, kind, blocks, channelOf, dateOf, named, Row, rows}
+use Rattle.meaning.specs.Sound.{fault}
+
+pub record Outcome : Type 0 where
+  pub answer : Answer
+  pub words : List ℕ
+
+-- A refusal answers its number with first block, length and date all 0, and the directory stays word for word
+unfoldable pub refuse : ℕ → List ℕ → Outcome
+refuse n d = record { answer = record { number = n; first = 0; length = 0; date = 0 }; words = d }
+
+-- Success is 0: first block, length and date of the entry concerned, as it stands afterwards
+unfoldable pub success : ℕ → ℕ → ℕ → List ℕ → Outcome
+success first length date after =
+    record { answer = record { number = 0; first = first; length = length; date = date }; words = after }
+
+-- Refusals are tested in number order, after 1 to 6. Each line of a request is one test: the refusal, or what comes next
+abbrev pub passed : ℕ → List ℕ → (Unit {0} → Outcome) → Outcome
+passed zero d next = next tt
+passed (suc n) d next = refuse (suc n) d
+
+-- 1 to 6
+abbrev pub ifSound : ℕ → List ℕ → (Unit {0} → Outcome) → Outcome
+ifSound v d next = passed (fault v d) d next
+
+-- refusal n unless a test holds
+abbrev pub unless : ℕ → Bool → List ℕ → (Unit {0} → Outcome) → Outcome
+unless n true d next = next tt
+unless n false d next = refuse n d
+
+-- refusal n unless an entry is found
+abbrev pub onRow : ℕ → Option Row → List ℕ → (Row → Outcome) → Outcome
+onRow n none d next = refuse n d
+onRow n (some r) d next = next r
+
+-- the first row, in chain order, whose entry passes a test
+unfoldable pub find : (Entry → Bool) → List Row → Option Row
+find p [] = none
+find p (r ∷ rs) = let f = find p rs in cond (p (r .entry)) (some r) f
+
+abbrev pub isNone : {A : Type 0} → Option A → Bool
+isNone none = true
+isNone (some a) = false
+
+-- the permanent file of a name
+unfoldable pub permanentNamed : ℕ → ℕ → ℕ → Entry → Bool
+permanentNamed a b c e = isPermanent (kind e) && named a b c e
+
+unfoldable pub fileOf : List ℕ → ℕ → ℕ → ℕ → Option Row
+fileOf d a b c = find (permanentNamed a b c) (rows d)
+
+-- the tentative entry on a channel word
+unfoldable pub tentativeOn : ℕ → Entry → Bool
+tentativeOn x e = isTentative (kind e) && eqb (channelOf e) x
+
+unfoldable pub openOn : List ℕ → ℕ → Option Row
+openOn d x = find (tentativeOn x) (rows d)
+
+-- A change of words: of the entry that begins at a place, one word gets a value. Changes are made in order
+pub record Write : Type 0 where
+  pub place : ℕ
+  pub word : ℕ
+  pub value : ℕ
+
+unfoldable pub write : List ℕ → List Write → List ℕ
+write d [] = d
+write d (x ∷ xs) = write (set d (x .place + x .word) (x .value)) xs
+
+abbrev pub put : ℕ → ℕ → ℕ → Write
+put place word value = record { place = place; word = word; value = value }

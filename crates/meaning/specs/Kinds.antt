@@ -1,0 +1,47 @@
+-- The kind of an entry (document 01, "One segment").
+use Prim.Native.Nat.{ℕ}
+use mathlib.Core.Bool.{Bool, true, false, cond}
+use lib.Dec.{eqb}
+use Rattle.meaning.specs.declared.Kind.{Kind}
+use Rattle.meaning.specs.declared.Kind.the-variants.{Tentative, Empty, Permanent, End, Unknown}
+
+-- The status is exactly 256 tentative, 512 empty, 1024 permanent, 2048 end
+unfoldable pub kindOf : ℕ → Kind
+kindOf status =
+    cond (eqb status 256) Tentative
+    (cond (eqb status 512) Empty (cond (eqb status 1024) Permanent (cond (eqb status 2048) End Unknown)))
+
+abbrev pub isTentative : Kind → Bool
+isTentative Tentative = true
+isTentative Empty = false
+isTentative Permanent = false
+isTentative End = false
+isTentative Unknown = false
+
+abbrev pub isEmpty : Kind → Bool
+isEmpty Tentative = false
+isEmpty Empty = true
+isEmpty Permanent = false
+isEmpty End = false
+isEmpty Unknown = false
+
+abbrev pub isPermanent : Kind → Bool
+isPermanent Tentative = false
+isPermanent Empty = false
+isPermanent Permanent = true
+isPermanent End = false
+isPermanent Unknown = false
+
+abbrev pub isEnd : Kind → Bool
+isEnd Tentative = false
+isEnd Empty = false
+isEnd Permanent = false
+isEnd End = true
+isEnd Unknown = false
+
+abbrev pub isUnknown : Kind → Bool
+isUnknown Tentative = false
+isUnknown Empty = false
+isUnknown Permanent = false
+isUnknown End = false
+isUnknown Unknown = true

@@ -1,0 +1,123 @@
+-- Sound directories (document 01): rules 1 to 6, and the fault's number. Each test says that its rule is broken.
+use Prim.Native.Nat.{ℕ, zero, suc, _+_, _*_, _%_}
+use mathlib.Core.Bool.{Bool, true, false, cond, _&&_, _||_, not}
+use mathlib.Core.List.{List, [], _∷_}
+use lib.ListN.{length, getD}
+use lib.Dec.{eqb, leb, ltb}
+use Rattle.meaning.specs.Kinds.{isTentative, isEmpty, isPermanent, isEnd, isUnknown}
+use Rattle.meaning.specs.Words.{segments, firstData, segment, totalOf, linkOf, extraBytesOf, firstOf, highest, slotWords, Entry}
+use Rattle.meaning.specs.Words.{nameWord, name2Word, extensionWord, kind, channelOf, named, slots, upto, entries, total}
+use Rattle.meaning.specs.Words.{chainFrom, reached, chain, allEntries}
+
+-- whether some element of a list passes a test
+module _ {A : Type 0} where
+  unfoldable pub any : (A → Bool) → List A → Bool
+  any p [] = false
+  any p (x ∷ xs) = let r = any p xs in p x || r
+
+-- 1: slice length or V breaks the rule above: N is 1 to 31, the slice has exactly 512·N words, V is 6+2N to 65,535
+unfoldable pub bad1 : ℕ → List ℕ → Bool
+bad1 v d =
+    not
+    (leb 1 (segments d)
+    && leb (segments d) 31
+    && eqb (length d) (512 * segments d)
+    && leb (firstData d) v
+    && leb v 65535)
+
+-- 2: a segment 1 word is wrong: total is not N, H not 1..N, extra bytes odd or above 32
+unfoldable pub bad2 : List ℕ → Bool
+bad2 d =
+    not
+    (eqb (totalOf d) (segments d)
+    && leb 1 (highest d)
+    && leb (highest d) (segments d)
+    && eqb (extraBytesOf d % 2) 0
+    && leb (extraBytesOf d) 32)
+
+-- how often a number stands in a list
+unfoldable pub times : ℕ → List ℕ → ℕ
+times k [] = 0
+times k (x ∷ xs) = let r = times k xs in cond (eqb x k) (suc r) r
+
+-- each of 1..n stands in a list once
+unfoldable pub eachOnce : ℕ → List ℕ → Bool
+eachOnce zero xs = true
+eachOnce (suc n) xs = let r = eachOnce n xs in eqb (times (suc n) xs) 1 && r
+
+-- a segment differs from segment 1 in total or extra bytes
+unfoldable pub differs : List ℕ → ℕ → Bool
+differs d s = not (eqb (totalOf (segment d s)) (totalOf d) && eqb (extraBytesOf (segment d s)) (extraBytesOf d))
+
+-- 3: links from segment 1 do not visit each of 1..H once and then give 0, or a visited segment differs
+unfoldable pub bad3 : List ℕ → Bool
+bad3 d = not (eachOnce (highest d) (chain d) && eqb (reached (highest d) d 1) 0) || any (differs d) (chain d)
+
+-- 4, of one segment's slots: no marker within S slots
+unfoldable pub unmarked : List Entry → Bool
+unmarked es = not (any (λ e. isEnd (kind e)) es)
+
+-- a name word of a permanent or tentative entry above 63,999
+unfoldable pub longName : ℕ → ℕ → ℕ → Bool
+longName a b c = ltb 63999 a || ltb 63999 b || ltb 63999 c
+
+unfoldable pub badName : Entry → Bool
+badName e =
+    (isPermanent (kind e) || isTentative (kind e))
+    && longName (getD e nameWord 0) (getD e name2Word 0) (getD e extensionWord 0)
+
+unfoldable pub beginsEmpty : List Entry → Bool
+beginsEmpty [] = false
+beginsEmpty (f ∷ fs) = isEmpty (kind f)
+
+-- a tentative entry whose next slot is not an empty entry (the marker is none)
+unfoldable pub alone : List Entry → Bool
+alone [] = false
+alone (e ∷ es) = let r = alone es in (isTentative (kind e) && not (beginsEmpty es)) || r
+
+unfoldable pub badSlots : List Entry → Bool
+badSlots es =
+    any (λ e. isUnknown (kind e)) (upto es) || unmarked es || any badName (upto es) || alone (upto es)
+
+-- 4: an unknown status before the marker, no marker, a bad name word, or a tentative entry alone, in a segment of the chain
+unfoldable pub bad4 : List ℕ → Bool
+bad4 d = any (λ s. badSlots (slots (slotWords d) (segment d s))) (chain d)
+
+-- the segments fill the blocks from b to V: each begins where the one before it ended, and the end is V
+unfoldable pub filled : ℕ → List ℕ → ℕ → List ℕ → Bool
+filled v d b [] = eqb b v
+filled v d b (s ∷ ss) = let r = filled v d (b + total (entries d s)) ss in eqb (firstOf (segment d s)) b && r
+
+-- 5: segment 1 does not begin at 6+2N, a later segment in the chain does not begin where the one before it ended, or the end is not V
+unfoldable pub bad5 : ℕ → List ℕ → Bool
+bad5 v d = not (filled v d (firstData d) (chain d))
+
+-- two permanent entries with equal names, or two tentative entries with equal channel words
+unfoldable pub clash : Entry → Entry → Bool
+clash e f =
+    (isPermanent (kind e) && isPermanent (kind f) && named (getD e nameWord 0) (getD e name2Word 0) (getD e extensionWord 0) f)
+    || (isTentative (kind e) && isTentative (kind f) && eqb (channelOf f) (channelOf e))
+
+unfoldable pub clashes : List Entry → Bool
+clashes [] = false
+clashes (e ∷ es) = let r = clashes es in any (clash e) es || r
+
+-- 6: two entries clash
+unfoldable pub bad6 : List ℕ → Bool
+bad6 d = clashes (allEntries d)
+
+-- the number of a rule that is broken, or else what the rules after it give
+abbrev pub rule : ℕ → Bool → (Unit {0} → ℕ) → ℕ
+rule n true next = n
+rule n false next = next tt
+
+-- With several faults the smallest number is given; each rule presumes those above it. A sound directory has number 0
+unfoldable pub fault : ℕ → List ℕ → ℕ
+fault v d =
+    rule 1 (bad1 v d) λ _.
+    rule 2 (bad2 d) λ _.
+    rule 3 (bad3 d) λ _.
+    rule 4 (bad4 d) λ _.
+    rule 5 (bad5 v d) λ _.
+    rule 6 (bad6 d) λ _.
+    0

@@ -1,0 +1,165 @@
+-- The words of a directory (document 01, "The volume as we handle it" and "One segment"): segments, slots, entries, the chain, rows.
+-- A directory is the list of its words.
+use Prim.Native.Nat.{ℕ, zero, suc, _+_, _*_, _-_, _/_}
+use mathlib.Core.Bool.{Bool, true, false, cond, _&&_}
+use mathlib.Core.List.{List, [], _∷_, _++_}
+use lib.ListN.{length, getD, take, drop}
+use lib.Dec.{eqb}
+use Rattle.meaning.specs.declared.Kind.{Kind}
+use Rattle.meaning.specs.Kinds.{kindOf, isEnd}
+
+-- N directory segments: the slice has exactly 512·N words
+abbrev pub segments : List ℕ → ℕ
+segments d = length d / 512
+
+-- data blocks run from 6+2N
+abbrev pub firstData : List ℕ → ℕ
+firstData d = 6 + 2 * segments d
+
+-- segment k, counted from 1: a part of the slice
+unfoldable pub segment : List ℕ → ℕ → List ℕ
+segment d k = take 512 (drop (512 * (k - 1)) d)
+
+-- Header, five words: total segments; number of the next segment, 0 for none; highest segment in use; extra bytes per entry;
+-- first data block of this segment
+abbrev pub totalOf : List ℕ → ℕ
+totalOf g = getD g 0 0
+
+abbrev pub linkOf : List ℕ → ℕ
+linkOf g = getD g 1 0
+
+abbrev pub extraBytesOf : List ℕ → ℕ
+extraBytesOf g = getD g 3 0
+
+abbrev pub firstOf : List ℕ → ℕ
+firstOf g = getD g 4 0
+
+-- H is read in segment 1 only
+abbrev pub highest : List ℕ → ℕ
+highest d = getD d 2 0
+
+-- extra bytes are even: E extra words
+abbrev pub extraWords : List ℕ → ℕ
+extraWords d = extraBytesOf d / 2
+
+-- an entry slot has 7+E words
+abbrev pub slotWords : List ℕ → ℕ
+slotWords d = 7 + extraWords d
+
+-- S = floor(507/(7+E)) slots
+abbrev pub slotCount : ℕ → ℕ
+slotCount w = 507 / w
+
+-- The end marker takes one slot, so a segment holds at most C = S−1 entries
+unfoldable pub capacity : List ℕ → ℕ
+capacity d = slotCount (slotWords d) - 1
+
+-- an entry, or any slot: its words
+abbrev pub Entry : Type 0
+Entry = List ℕ
+
+-- Entry words: status; name (two words); extension; length in blocks; channel word (job·256 + channel); date; extras
+abbrev pub statusWord : ℕ
+statusWord = 0
+
+abbrev pub nameWord : ℕ
+nameWord = 1
+
+abbrev pub name2Word : ℕ
+name2Word = 2
+
+abbrev pub extensionWord : ℕ
+extensionWord = 3
+
+abbrev pub lengthWord : ℕ
+lengthWord = 4
+
+abbrev pub channelWord : ℕ
+channelWord = 5
+
+abbrev pub dateWord : ℕ
+dateWord = 6
+
+abbrev pub kind : Entry → Kind
+kind e = kindOf (getD e statusWord 0)
+
+abbrev pub blocks : Entry → ℕ
+blocks e = getD e lengthWord 0
+
+abbrev pub channelOf : Entry → ℕ
+channelOf e = getD e channelWord 0
+
+abbrev pub dateOf : Entry → ℕ
+dateOf e = getD e dateWord 0
+
+unfoldable pub named : ℕ → ℕ → ℕ → Entry → Bool
+named a b c e = eqb (getD e nameWord 0) a && eqb (getD e name2Word 0) b && eqb (getD e extensionWord 0) c
+
+-- n slots of w words each
+unfoldable pub chunks : ℕ → ℕ → List ℕ → List Entry
+chunks zero w l = []
+chunks (suc n) w l = take w l ∷ chunks n w (drop w l)
+
+-- the slots of a segment stand from word 5
+unfoldable pub slots : ℕ → List ℕ → List Entry
+slots w g = chunks (slotCount w) w (drop 5 g)
+
+-- the entries are the slots before the marker
+unfoldable pub upto : List Entry → List Entry
+upto [] = []
+upto (e ∷ es) = let r = upto es in cond (isEnd (kind e)) [] (e ∷ r)
+
+unfoldable pub entries : List ℕ → ℕ → List Entry
+entries d k = upto (slots (slotWords d) (segment d k))
+
+-- Sums are exact whole numbers and never reduced by 65,536
+unfoldable pub total : List Entry → ℕ
+total [] = 0
+total (e ∷ es) = blocks e + total es
+
+-- the links from segment k, n of them followed: the segments visited, in order
+unfoldable pub chainFrom : ℕ → List ℕ → ℕ → List ℕ
+chainFrom zero d k = []
+chainFrom (suc n) d k = k ∷ chainFrom n d (linkOf (segment d k))
+
+-- the segment that is reached after n links
+unfoldable pub reached : ℕ → List ℕ → ℕ → ℕ
+reached zero d k = k
+reached (suc n) d k = reached n d (linkOf (segment d k))
+
+-- the chain: as many segments as are in use, from segment 1
+unfoldable pub chain : List ℕ → List ℕ
+chain d = chainFrom (highest d) d 1
+
+-- an entry with its segment and slot, both counted from 1, the place of its first word in the directory, and its first block
+pub record Row : Type 0 where
+  pub seg : ℕ
+  pub slot : ℕ
+  pub at : ℕ
+  pub first : ℕ
+  pub entry : Entry
+
+-- Entries need no stored start: a start is the segment's first block plus the lengths before it.
+-- The rows of entries of w words in segment s, the first of them in slot k, at word a, with first block b
+unfoldable pub rowsIn : ℕ → ℕ → ℕ → ℕ → ℕ → List Entry → List Row
+rowsIn w s k a b [] = []
+rowsIn w s k a b (e ∷ es) =
+    record { seg = s; slot = k; at = a; first = b; entry = e } ∷ rowsIn w s (k + 1) (a + w) (b + blocks e) es
+
+unfoldable pub segmentRows : List ℕ → ℕ → List Row
+segmentRows d s = rowsIn (slotWords d) s 1 (512 * (s - 1) + 5) (firstOf (segment d s)) (entries d s)
+
+unfoldable pub rowsOf : List ℕ → List ℕ → List Row
+rowsOf d [] = []
+rowsOf d (s ∷ ss) = segmentRows d s ++ rowsOf d ss
+
+-- all entries in chain order
+unfoldable pub rows : List ℕ → List Row
+rows d = rowsOf d (chain d)
+
+unfoldable pub entriesOf : List ℕ → List ℕ → List Entry
+entriesOf d [] = []
+entriesOf d (s ∷ ss) = entries d s ++ entriesOf d ss
+
+unfoldable pub allEntries : List ℕ → List Entry
+allEntries d = entriesOf d (chain d)
