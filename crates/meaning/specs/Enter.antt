@@ -1,0 +1,227 @@
+-- Enter (document 01, "Requests"): tidy, choose, split if needed, insert.
+use Prim.Native.Nat.{ℕ, zero, suc, _+_, _*_, _-_, _/_, max}
+use mathlib.Core.Bool.{Bool, true, false, cond, _&&_, _||_, not}
+use mathlib.Core.List.{List, [], _∷_, _++_, map}
+use mathlib.Core.Option.{Option, none, some}
+use lib.ListN.{length, getD, take, drop, set}
+use lib.IntN.{ℤ, pos, negsuc}
+use lib.Dec.{eqb, leb, ltb}
+use Rattle.names.specs.Radix.{legalName}
+use Rattle.names.specs.Dates.{goodDate}
+use Rattle.meaning.specs.Kinds.{isTentative, isEmpty}
+use Rattle.meaning.specs.Words.{segments, segment, totalOf, linkOf, extraBytesOf, firstOf, highest, slotWords, capacity, Entry}
+use Rattle.meaning.specs.Words.{lengthWord, kind, blocks, entries, total, chain}
+use Rattle.meaning.specs.Sound.{any}
+use Rattle.meaning.specs.Answers.{Outcome, refuse, success, ifSound, unless, isNone, openOn}
+use Rattle.meaning.specs.Requests.{goodChannel, wordOf, entryOf, render}
+
+-- A size is -1 for the longest, 0 for RT-11's default, or 1 to 65,535 blocks; any other is wrong
+pub data Size : Type 0 where
+  longest default wrong : Size
+  exact : ℕ → Size
+
+unfoldable pub sizeOf : ℤ → Size
+sizeOf (pos n) = cond (eqb n 0) default (cond (leb n 65535) (exact n) wrong)
+sizeOf (negsuc n) = cond (eqb n 0) longest wrong
+
+abbrev pub goodSize : Size → Bool
+goodSize longest = true
+goodSize default = true
+goodSize wrong = false
+goodSize (exact n) = true
+
+-- 1. Tidy. An area is an empty entry
+abbrev pub isArea : Entry → Bool
+isArea e = isEmpty (kind e)
+
+-- a run of neighbouring empty entries becomes its first with the summed length: an empty entry takes the length of the run after it
+abbrev pub joinTo : Entry → List Entry → List Entry
+joinTo e [] = e ∷ []
+joinTo e (f ∷ fs) = cond (isArea e && isArea f) (set e lengthWord (blocks e + blocks f) ∷ fs) (e ∷ f ∷ fs)
+
+unfoldable pub joined : List Entry → List Entry
+joined [] = []
+joined (e ∷ es) = joinTo e (joined es)
+
+-- a zero sum is dropped unless a tentative entry stands before it: p says so of the first entry
+unfoldable pub dropZero : Bool → List Entry → List Entry
+dropZero p [] = []
+dropZero p (e ∷ es) =
+    let r = dropZero (isTentative (kind e)) es in
+    cond (isArea e && eqb (blocks e) 0 && not p) r (e ∷ r)
+
+unfoldable pub tidy : List Entry → List Entry
+tidy es = dropZero false (joined es)
+
+-- the directory with segment s replaced
+unfoldable pub withSegment : List ℕ → ℕ → List ℕ → List ℕ
+withSegment d s g = take (512 * (s - 1)) d ++ g ++ drop (512 * s) d
+
+unfoldable pub headerOf : List ℕ → ℕ → List ℕ
+headerOf d s = take 5 (segment d s)
+
+-- In a segment whose entries an enter has changed, all words after the marker's status are 0; other segments stay as they were.
+-- A run that is joined or dropped makes the entries fewer, and nothing else is changed by the tidy
+unfoldable pub tidiedAt : List ℕ → ℕ → List ℕ
+tidiedAt d s =
+    let es = entries d s in
+    let ts = tidy es in
+    cond (eqb (length ts) (length es)) d (withSegment d s (render (headerOf d s) ts))
+
+-- in each open segment
+unfoldable pub tidied : List ℕ → List ℕ → List ℕ
+tidied d [] = d
+tidied d (s ∷ ss) = tidied (tidiedAt d s) ss
+
+-- 2. An area: its segment, how many entries of the segment stand before it, its first block and length, what it costs in slots, and
+-- whether it is eligible
+pub record Area : Type 0 where
+  pub seg : ℕ
+  pub before : ℕ
+  pub first : ℕ
+  pub size : ℕ
+  pub cost : ℕ
+  pub eligible : Bool
+
+-- An area costs 2 slots if a tentative entry stands directly before it, else 1
+unfoldable pub costAfter : Bool → ℕ
+costAfter p = cond p 2 1
+
+-- its segment's entries plus cost are at most C, or H < N
+unfoldable pub hasRoom : List ℕ → List Entry → ℕ → Bool
+hasRoom d es cost = leb (length es + cost) (capacity d) || ltb (highest d) (segments d)
+
+-- It is eligible if its length is at least 1 and it has room. The areas among entries of segment s, after k others, from block b on,
+-- with p a tentative entry directly before
+unfoldable pub areasIn : (ℕ → Bool) → ℕ → ℕ → ℕ → Bool → List Entry → List Area
+areasIn room s k b p [] = []
+areasIn room s k b p (e ∷ es) =
+    let r = areasIn room s (k + 1) (b + blocks e) (isTentative (kind e)) es in
+    cond (isArea e)
+    (record {
+      seg = s;
+      before = k;
+      first = b;
+      size = blocks e;
+      cost = costAfter p;
+      eligible = leb 1 (blocks e) && room (costAfter p);
+    }
+    ∷ r)
+    r
+
+-- of the tidied directory t, in chain order
+unfoldable pub areas : List ℕ → List ℕ → List Area
+areas t [] = []
+areas t (s ∷ ss) =
+    let es = entries t s in
+    areasIn (hasRoom t es) s 0 (firstOf (segment t s)) false es ++ areas t ss
+
+-- 3. Choose
+unfoldable pub eligibles : List Area → List Area
+eligibles [] = []
+eligibles (a ∷ as′) = let r = eligibles as′ in cond (a .eligible) (a ∷ r) r
+
+unfoldable pub longestOf : List ℕ → ℕ
+longestOf [] = 0
+longestOf (n ∷ ns) = max n (longestOf ns)
+
+-- a list without the first n in it
+unfoldable pub without : ℕ → List ℕ → List ℕ
+without n [] = []
+without n (m ∷ ms) = let r = without n ms in cond (eqb m n) ms (m ∷ r)
+
+-- the second longest (another entry; 0 if none)
+unfoldable pub secondOf : List ℕ → ℕ
+secondOf ns = longestOf (without (longestOf ns) ns)
+
+-- Size n > 0 is n. Size −1 means the longest eligible length. Size 0 means the greater of the longest eligible length halved, rounded
+-- up, and the second longest eligible length. Of the eligible lengths:
+unfoldable pub wanted : Size → List ℕ → ℕ
+wanted longest ns = longestOf ns
+wanted default ns = max ((longestOf ns + 1) / 2) (secondOf ns)
+wanted wrong ns = 0
+wanted (exact n) ns = n
+
+-- length at least n (1 for sizes 0 and −1)
+unfoldable pub atLeast : Size → ℕ
+atLeast longest = 1
+atLeast default = 1
+atLeast wrong = 1
+atLeast (exact n) = n
+
+-- first area in chain order of length at least n
+unfoldable pub firstFit : ℕ → List Area → Option Area
+firstFit n [] = none
+firstFit n (a ∷ as′) = let r = firstFit n as′ in cond (leb n (a .size)) (some a) r
+
+-- 4. Split: with m entries keep floor(m/2), one more if the last kept is tentative
+unfoldable pub endsTentative : List Entry → Bool
+endsTentative [] = false
+endsTentative (e ∷ []) = isTentative (kind e)
+endsTentative (e ∷ f ∷ es) = endsTentative (f ∷ es)
+
+unfoldable pub kept : List Entry → ℕ
+kept es = let h = length es / 2 in cond (endsTentative (take h es)) (h + 1) h
+
+-- 5. Insert before the area: at cost 2, first an empty entry of length 0, other words 0; then the tentative entry. The area keeps its
+-- words and loses n. The area stands after k entries of es
+unfoldable pub inserted : ℕ → Entry → ℕ → ℕ → ℕ → List Entry → List Entry
+inserted w new n cost k es =
+    take k es
+    ++ cond (eqb cost 2) (entryOf w 512 0 0 0 0 0 0 ∷ []) []
+    ++ new ∷ set (getD es k []) lengthWord (blocks (getD es k []) - n) ∷ drop (suc k) es
+
+-- the new entry inserted, in the chosen segment
+unfoldable pub unsplit : List ℕ → Entry → ℕ → Area → List ℕ
+unsplit t new n a =
+    withSegment t (a .seg)
+    (render (headerOf t (a .seg)) (inserted (slotWords t) new n (a .cost) (a .before) (entries t (a .seg))))
+
+-- The rest go to segment H+1, header N, old link, 0, extra bytes, its first block. The old segment links to it; H grows by 1. The area
+-- is among those kept, or among the rest
+unfoldable pub split : List ℕ → Entry → ℕ → Area → List ℕ
+split t new n a =
+    let s = a .seg in
+    let k = a .before in
+    let es = entries t s in
+    let h = kept es in
+    let low = take h es in
+    let high = drop h es in
+    let next = highest t + 1 in
+    let header = headerOf t s in
+    let newHeader : List ℕ = totalOf t ∷ linkOf header ∷ 0 ∷ extraBytesOf t ∷ (firstOf header + total low) ∷ [] in
+    let add = inserted (slotWords t) new n (a .cost) in
+    let old = render (set header 1 next) (cond (ltb k h) (add k low) low) in
+    let fresh = render newHeader (cond (ltb k h) high (add (k - h) high)) in
+    set (withSegment (withSegment t s old) next fresh) 2 next
+
+-- split only if the chosen segment lacks the slots
+unfoldable pub entered : List ℕ → Entry → ℕ → Area → List ℕ
+entered t new n a =
+    let one = unsplit t new n a in
+    let two = split t new n a in
+    cond (leb (length (entries t (a .seg)) + a .cost) (capacity t)) one two
+
+-- success answers the tentative entry, which stands where the area began. (An eligible area is there where 12 is not given.)
+abbrev pub placed : List ℕ → List ℕ → ℕ → ℕ → Entry → Option Area → Outcome
+placed d t n date new none = refuse 12 d
+placed d t n date new (some a) = success (a .first) n date (entered t new n a)
+
+-- 11: no empty entry of length at least n (1 for sizes 0 and −1). 12: such entries exist, none of them eligible. A refusal leaves d
+unfoldable pub enter : ℕ → List ℕ → ℕ → ℕ → ℕ → ℤ → ℕ → ℕ → ℕ → Outcome
+enter v d a b c asked job channel date =
+    let size = sizeOf asked in
+    let x = wordOf job channel in
+    let t = tidied d (chain d) in
+    let all = areas t (chain d) in
+    let fit = eligibles all in
+    let n = wanted size (map (λ r. r .size) fit) in
+    let new = entryOf (slotWords d) 256 a b c n x date in
+    ifSound v d λ _.
+    unless 7 (legalName a b c) d λ _.
+    unless 8 (goodChannel job channel) d λ _.
+    unless 9 (goodSize size && goodDate date) d λ _.
+    unless 10 (isNone (openOn d x)) d λ _.
+    unless 11 (any (λ r. leb (atLeast size) (r .size)) all) d λ _.
+    unless 12 (any (λ r. leb (atLeast size) (r .size)) fit) d λ _.
+    placed d t n date new (firstFit n fit)

@@ -12,6 +12,7 @@ use native.Mathlib.Numerals.{add-one}
 use lib.ListN.{length, getD, take, drop, length-take, length-drop, drop-of-length-le}
 use lib.Seq.{getD-take, getD-drop, drop-cons, take-all}
 use lib.Dec.{eqb, leb, ltb}
+use Rattle.names.specs.Text.{bytes}
 use Rattle.names.specs.Radix.{space, isLetter, isDigit, alphabet, shown, place, codeOf, packed, packedAt, spelled, textOf, inName, inText}
 use Rattle.names.specs.Radix.{blank, padded, legalText, spells, legalName, wordsOfText, textOfWords}
 use Rattle.names.specs.Steps.{Coded, stepOf, fineIn}
@@ -23,7 +24,7 @@ use Rattle.names.proofs.Below.{both, either, either-side, every, below}
 
 -- the alphabet's rule: no byte stands in it twice
 pub code-shown : (c : ℕ) → c < 40 → codeOf (shown c) ≡ c
-unfolding codeOf shown alphabet place
+unfolding codeOf shown alphabet bytes place
 code-shown c h = eqb-true (codeOf (shown c)) c (below (λ k. eqb (codeOf (shown k)) k) 40 refl c h)
 
 -- the bytes of a text are in the alphabet
@@ -40,7 +41,7 @@ found : ℕ → Bool
 found b = cond (inText b) (eqb (shown (codeOf b)) b && ltb (codeOf b) 40) true
 
 found-in : (b : ℕ) → inText b ≡ true → eqb (shown (codeOf b)) b && ltb (codeOf b) 40 ≡ true
-unfolding found inText inName codeOf shown alphabet place
+unfolding found inText inName codeOf shown alphabet bytes place
 found-in b h = rw h at (below found 91 refl b (in-text-small b h))
 
 pub shown-code : (b : ℕ) → inText b ≡ true → shown (codeOf b) ≡ b
@@ -140,7 +141,7 @@ inRuns : ℕ → Bool
 inRuns b = cond (inText b) (eqb (codeOf b) (codeBy b) && leb 18 b && (leb b 57 || leb 64 b)) true
 
 in-runs : (b : ℕ) → inText b ≡ true → eqb (codeOf b) (codeBy b) && leb 18 b && (leb b 57 || leb 64 b) ≡ true
-unfolding inRuns inText inName codeOf alphabet place
+unfolding inRuns inText inName codeOf alphabet bytes place
 in-runs b h = rw h at (below inRuns 91 refl b (in-text-small b h))
 
 pub code-by : (b r : ℕ) → inText b ≡ true → codeBy b ≡ r → Coded b r

@@ -1,3 +1,4 @@
+pub mod Text
 pub mod Radix
 pub mod Dates
 pub mod Steps

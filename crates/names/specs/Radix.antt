@@ -1,31 +1,27 @@
 -- Names (document 01, "Names and dates"): Radix-50 words and the text that they spell. Text is a list of bytes.
 use Prim.Native.Nat.{ℕ, zero, suc, _+_, _*_, _/_, _%_}
+use Prim.Native.Char.{code}
 use mathlib.Core.Bool.{Bool, true, cond, _&&_, _||_}
 use mathlib.Core.List.{List, [], _∷_, _++_}
 use lib.ListN.{length, getD, take, drop, replicate}
 use lib.Dec.{eqb, leb}
+use Rattle.names.specs.Text.{bytes}
 use Rattle.names.specs.declared.radix.NameWords.{NameWords}
 use Rattle.names.specs.declared.radix.NameText.{NameText}
 
--- the bytes of a space, of A and Z, of 0 and 9
+-- the byte of a space; A to Z; 0 to 9
 abbrev pub space : ℕ
-space = 32
+space = code " "
 
 abbrev pub isLetter : ℕ → Bool
-isLetter b = leb 65 b && leb b 90
+isLetter b = leb (code "A") b && leb b (code "Z")
 
 abbrev pub isDigit : ℕ → Bool
-isDigit b = leb 48 b && leb b 57
+isDigit b = leb (code "0") b && leb b (code "9")
 
 -- Radix-50: the byte shown for each code: space 0, A to Z 1 to 26, $ 27, . 28, 29 unused and shown as ?, digits 30 to 39
 unfoldable pub alphabet : List ℕ
-alphabet =
-    space
-    ∷ 65 ∷ 66 ∷ 67 ∷ 68 ∷ 69 ∷ 70 ∷ 71 ∷ 72 ∷ 73 ∷ 74 ∷ 75 ∷ 76 ∷ 77
-    ∷ 78 ∷ 79 ∷ 80 ∷ 81 ∷ 82 ∷ 83 ∷ 84 ∷ 85 ∷ 86 ∷ 87 ∷ 88 ∷ 89 ∷ 90
-    ∷ 36 ∷ 46 ∷ 63
-    ∷ 48 ∷ 49 ∷ 50 ∷ 51 ∷ 52 ∷ 53 ∷ 54 ∷ 55 ∷ 56 ∷ 57
-    ∷ []
+alphabet = bytes " ABCDEFGHIJKLMNOPQRSTUVWXYZ$.?0123456789"
 
 unfoldable pub shown : ℕ → ℕ
 shown code = getD alphabet code 0
