@@ -6,3 +6,4 @@ pub mod Requests
 pub mod Enter
 pub mod Batch
 pub mod Listing
+pub mod Examples

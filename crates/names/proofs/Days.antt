@@ -11,7 +11,8 @@ use lib.ListN.{getD, List·getD-eq-default}
 use lib.Dec.{eqb, leb}
 use Rattle.names.specs.Dates.{years, monthLengths, isLeap, daysIn, inCalendar, dateWord, dayField, monthField, namesDay, goodDate}
 use Rattle.names.specs.Dates.{wordOfDay, dayOfWord}
-use Rattle.names.proofs.Below.{both, either, either-side, every, below}
+use Rattle.names.proofs.Bools.{both, either, either-side}
+use Rattle.names.proofs.Below.{every, below}
 
 -- the table's rule: no month is longer than 31 days, in leap years either
 short : ℕ → Bool

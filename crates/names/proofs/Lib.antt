@@ -1,3 +1,4 @@
+pub mod Bools
 pub mod Below
 pub mod Names
 pub mod Days

@@ -1,0 +1,216 @@
+-- Document 01's starred bench examples, 1 to 8 and 10, as one table, in the document's terms: what is asked, and what comes out. And a
+-- second table for the slips that it warns of. antt computes both (proofs/Examples.antt).
+use Prim.Native.Nat.{ℕ, zero, suc, _+_, _*_}
+use Prim.Native.String.{String}
+use mathlib.Core.Bool.{Bool, true, false, _&&_}
+use mathlib.Core.List.{List, [], _∷_, _++_, map}
+use lib.ListN.{set, replicate}
+use lib.IntN.{ℤ, pos, negsuc}
+use lib.Dec.{eqb}
+use Rattle.names.specs.Text.{bytes}
+use Rattle.names.specs.Radix.{wordsOfText}
+use Rattle.names.specs.Dates.{wordOfDay}
+use Rattle.meaning.specs.declared.Op.{Op}
+use Rattle.meaning.specs.declared.Op.the-variants.{Lookup, Enter, Close, Abandon, Delete, Rename}
+use Rattle.meaning.specs.declared.Name.{Name}
+use Rattle.meaning.specs.declared.Request.{Request}
+use Rattle.meaning.specs.declared.Answer.{Answer}
+use Rattle.meaning.specs.Words.{Entry, blocks, allEntries}
+use Rattle.meaning.specs.Sound.{fault}
+use Rattle.meaning.specs.Answers.{Outcome}
+use Rattle.meaning.specs.Requests as Requests
+use Rattle.meaning.specs.Requests.{entryOf, render}
+use Rattle.meaning.specs.Batch.{serve}
+use Rattle.meaning.specs.Listing.{sameBytes}
+
+-- a step of an example: a fresh start with E extra words, or a request
+pub data Ask : Type 0 where
+  start : ℕ → Ask
+  request : Request → Ask
+
+-- what is asked, and the answer's four numbers
+pub record Step : Type 0 where
+  pub ask : Ask
+  pub number : ℕ
+  pub first : ℕ
+  pub length : ℕ
+  pub date : ℕ
+
+-- a row of the table: a text and its three words; a day, its number and word; a run: V, the words that it begins with, its steps, and
+-- the lengths of all entries in the end; or the fault's number of V and words
+pub data Case : Type 0 where
+  spelled : String → ℕ → ℕ → ℕ → Case
+  dated : ℕ → ℕ → ℕ → ℕ → ℕ → Case
+  run : ℕ → List ℕ → List Step → List ℕ → Case
+  faulty : ℕ → List ℕ → ℕ → Case
+
+-- N segments of words that don't matter
+abbrev pub blank : ℕ → List ℕ
+blank n = replicate (512 * n) 0
+
+unfoldable pub nameOf : String → Name
+nameOf t =
+    let w = wordsOfText (bytes t) in
+    record { first = w .first; second = w .second; extension = w .extension }
+
+unfoldable pub ask : Op → String → String → ℕ → ℕ → ℤ → ℤ → ℕ → Ask
+ask op old new job channel size final date =
+    request
+    (record {
+      op = op;
+      name = nameOf old;
+      «new_name» = nameOf new;
+      job = job;
+      channel = channel;
+      size = size;
+      «final_length» = final;
+      date = date;
+    })
+
+abbrev pub entering : String → ℤ → ℕ → ℕ → ℕ → Ask
+entering name size job channel date = ask Enter name name job channel size (pos 0) date
+
+abbrev pub closing : ℕ → ℕ → ℤ → Ask
+closing job channel final = ask Close "A        " "A        " job channel (pos 0) final 0
+
+abbrev pub deleting : String → Ask
+deleting name = ask Delete name name 0 0 (pos 0) (pos 0) 0
+
+abbrev pub looking : String → Ask
+looking name = ask Lookup name name 0 0 (pos 0) (pos 0) 0
+
+abbrev pub renaming : String → String → Ask
+renaming old new = ask Rename old new 0 0 (pos 0) (pos 0) 0
+
+abbrev pub gives : Ask → ℕ → ℕ → ℕ → ℕ → Step
+gives a number first length date = record { ask = a; number = number; first = first; length = length; date = date }
+
+-- examples 3, 4 and 5: fresh V=494, N=4, E=0; then enter DAY.CHG, 30, job 0 channel 3, date 3556; then close at 12
+abbrev pub fresh3 : Step
+fresh3 = gives (start 0) 0 14 480 0
+
+abbrev pub enter4 : Step
+enter4 = gives (entering "DAY   CHG" (pos 30) 0 3 3556) 0 14 30 3556
+
+abbrev pub close5 : Step
+close5 = gives (closing 0 3 (pos 12)) 0 14 12 3556
+
+unfoldable pub table : List Case
+table =
+    spelled "DAY   CHG" 6465 0 5127
+    ∷ dated 15 3 1976 0 3556
+    ∷ dated 29 2 1973 9 0
+    ∷ run 494 (blank 4) (fresh3 ∷ []) (480 ∷ [])
+    ∷ run 494 (blank 4) (fresh3 ∷ enter4 ∷ []) (30 ∷ 450 ∷ [])
+    ∷ run 494 (blank 4) (fresh3 ∷ enter4 ∷ close5 ∷ []) (12 ∷ 468 ∷ [])
+    ∷ run 494 (blank 4) (fresh3 ∷ enter4 ∷ gives (closing 0 3 (pos 31)) 16 0 0 0 ∷ []) (30 ∷ 450 ∷ [])
+    ∷ run 494 (blank 4) (fresh3 ∷ enter4 ∷ gives (entering "DAY   CHG" (pos 100) 0 4 3556) 0 44 100 3556 ∷ [])
+    (30 ∷ 0 ∷ 100 ∷ 350 ∷ [])
+    ∷ run 173 (blank 1)
+    (gives (start 0) 0 8 165 0
+    ∷ gives (entering "A        " (pos 100) 0 1 0) 0 8 100 0
+    ∷ gives (closing 0 1 (pos 100)) 0 8 100 0
+    ∷ gives (entering "B        " (pos 5) 0 2 0) 0 108 5 0
+    ∷ gives (closing 0 2 (pos 5)) 0 108 5 0
+    ∷ gives (deleting "A        ") 0 8 100 0
+    ∷ gives (entering "C        " (pos 0) 0 3 0) 0 8 60 0
+    ∷ [])
+    (60 ∷ 40 ∷ 5 ∷ 60 ∷ [])
+    ∷ run 15 (blank 1) (gives (start 0) 0 8 7 0 ∷ gives (entering "A        " (pos 0) 0 3 0) 0 8 4 0 ∷ []) (4 ∷ 3 ∷ [])
+    ∷ run 8 (blank 1) (gives (start 0) 0 8 0 0 ∷ gives (entering "A        " (negsuc 0) 0 3 0) 11 0 0 0 ∷ []) (0 ∷ [])
+    ∷ run 494 (blank 4)
+    (fresh3 ∷ enter4 ∷ close5 ∷ gives (renaming "DAY   CHG" "DAY   CHG") 14 0 0 0 ∷ [])
+    (12 ∷ 468 ∷ [])
+    ∷ []
+
+-- a directory of one segment with these entries, for V = 6 + 2 + the sum of their lengths
+abbrev pub oneSegment : List Entry → List ℕ
+oneSegment es = render (1 ∷ 0 ∷ 1 ∷ 0 ∷ 8 ∷ []) es
+
+abbrev pub file : ℕ → ℕ → Entry
+file name length = entryOf 7 1024 name 0 0 length 0 0
+
+abbrev pub area : ℕ → Entry
+area length = entryOf 7 512 0 0 0 length 0 0
+
+abbrev pub tentative : ℕ → ℕ → Entry
+tentative length channel = entryOf 7 256 1600 0 0 length channel 0
+
+-- two segments in use, the second with other numbers in the word where segment 1 has H
+abbrev pub twoSegments : List ℕ
+twoSegments = render (2 ∷ 2 ∷ 2 ∷ 0 ∷ 10 ∷ []) (area 5 ∷ []) ++ render (2 ∷ 0 ∷ 77 ∷ 0 ∷ 15 ∷ []) (area 5 ∷ [])
+
+-- n files of one block, named apart from k on
+unfoldable pub filesFrom : ℕ → ℕ → List Entry
+filesFrom k zero = []
+filesFrom k (suc n) = file (1600 + k) 1 ∷ filesFrom (k + 1) n
+
+-- two segments, of which one is open and full: 34 files, a tentative entry with its area of 10, and 35 files
+abbrev pub fullSegment : List ℕ
+fullSegment =
+    render (2 ∷ 0 ∷ 1 ∷ 0 ∷ 10 ∷ []) (filesFrom 1 34 ++ tentative 1 3 ∷ area 10 ∷ filesFrom 35 35) ++ blank 1
+
+-- the slips: a sum of V + 65,536; a tentative entry before a file, and before the marker; zero lengths, legal for every kind; H read in
+-- another segment than 1; a looped chain; one channel word or one name twice; refusals in number order, where two would apply; a close
+-- over a file of the same name, which keeps its own blocks; and a split that parts no tentative entry from its area
+unfoldable pub slips : List Case
+slips =
+    faulty 100 (oneSegment (file 1600 65535 ∷ file 3200 93 ∷ [])) 5
+    ∷ faulty 100 (oneSegment (file 1600 50 ∷ area 42 ∷ [])) 0
+    ∷ faulty 100 (oneSegment (tentative 50 3 ∷ file 1600 42 ∷ [])) 4
+    ∷ faulty 100 (oneSegment (area 50 ∷ tentative 42 3 ∷ [])) 4
+    ∷ faulty 100 (oneSegment (file 1600 0 ∷ tentative 0 3 ∷ area 0 ∷ area 92 ∷ [])) 0
+    ∷ faulty 20 twoSegments 0
+    ∷ faulty 20 (set twoSegments 513 1) 3
+    ∷ faulty 100 (oneSegment (tentative 10 3 ∷ area 10 ∷ tentative 10 3 ∷ area 62 ∷ [])) 6
+    ∷ faulty 100 (oneSegment (file 1600 10 ∷ area 10 ∷ file 1600 72 ∷ [])) 6
+    ∷ faulty 65536 (blank 1) 1
+    ∷ run 100 (oneSegment (file 1600 50 ∷ area 42 ∷ []))
+    (gives (entering "a        " (negsuc 1) 1 16 1) 7 0 0 0
+    ∷ gives (entering "B        " (negsuc 1) 1 16 1) 8 0 0 0
+    ∷ gives (entering "B        " (negsuc 1) 0 15 1) 9 0 0 0
+    ∷ gives (entering "B        " (pos 93) 0 15 0) 11 0 0 0
+    ∷ gives (closing 3 3 (pos 1)) 8 0 0 0
+    ∷ gives (closing 2 3 (negsuc 0)) 15 0 0 0
+    ∷ gives (renaming "B        " "A        ") 13 0 0 0
+    ∷ gives (renaming "B        " "B B      ") 7 0 0 0
+    ∷ gives (deleting "B        ") 13 0 0 0
+    ∷ [])
+    (50 ∷ 42 ∷ [])
+    ∷ run 100 (oneSegment (file 1600 50 ∷ area 42 ∷ []))
+    (gives (entering "A        " (pos 10) 0 3 0) 0 58 10 0
+    ∷ gives (closing 0 3 (pos 7)) 0 58 7 0
+    ∷ gives (looking "A        ") 0 58 7 0
+    ∷ [])
+    (50 ∷ 7 ∷ 35 ∷ [])
+    ∷ run 90 fullSegment
+    (gives (entering "DAY   CHG" (pos 3) 0 4 3556) 0 45 3 3556 ∷ [])
+    (replicate 34 1 ++ 1 ∷ 0 ∷ 3 ∷ 7 ∷ replicate 35 1)
+    ∷ []
+
+abbrev pub outcome : ℕ → List ℕ → Ask → Outcome
+outcome v d (start e) = Requests.fresh v d e
+outcome v d (request q) = serve v d q
+
+unfoldable pub answered : Answer → Step → Bool
+answered a s =
+    eqb (a .number) (s .number) && eqb (a .first) (s .first) && eqb (a .length) (s .length) && eqb (a .date) (s .date)
+
+-- each answer as the step says, and in the end a sound directory of these lengths
+unfoldable pub runs : ℕ → List ℕ → List Step → List ℕ → Bool
+runs v d [] ns = sameBytes (map blocks (allEntries d)) ns && eqb (fault v d) 0
+runs v d (s ∷ ss) ns =
+    let o = outcome v d (s .ask) in
+    answered (o .answer) s && runs v (o .words) ss ns
+
+abbrev pub right : Case → Bool
+right (spelled t a b c) =
+    let w = wordsOfText (bytes t) in
+    eqb (w .number) 0 && eqb (w .first) a && eqb (w .second) b && eqb (w .extension) c
+right (dated d m y number word) = let w = wordOfDay d m y in eqb (w .number) number && eqb (w .word) word
+right (run v d ss ns) = runs v d ss ns
+right (faulty v d k) = eqb (fault v d) k
+
+unfoldable pub allRight : List Case → Bool
+allRight [] = true
+allRight (c ∷ cs) = let r = allRight cs in right c && r
