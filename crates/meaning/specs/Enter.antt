@@ -149,6 +149,10 @@ atLeast default = 1
 atLeast wrong = 1
 atLeast (exact n) = n
 
+-- some area has length at least n
+unfoldable pub longEnough : ℕ → List Area → Bool
+longEnough n as′ = any (λ r. leb n (r .size)) as′
+
 -- first area in chain order of length at least n
 unfoldable pub firstFit : ℕ → List Area → Option Area
 firstFit n [] = none
@@ -222,6 +226,6 @@ enter v d a b c asked job channel date =
     unless 8 (goodChannel job channel) d λ _.
     unless 9 (goodSize size && goodDate date) d λ _.
     unless 10 (isNone (openOn d x)) d λ _.
-    unless 11 (any (λ r. leb (atLeast size) (r .size)) all) d λ _.
-    unless 12 (any (λ r. leb (atLeast size) (r .size)) fit) d λ _.
+    unless 11 (longEnough (atLeast size) all) d λ _.
+    unless 12 (longEnough (atLeast size) fit) d λ _.
     placed d t n date new (firstFit n fit)

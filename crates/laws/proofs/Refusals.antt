@@ -1,0 +1,182 @@
+-- Demand 1. A refusal is settled if its number is listed, a success always; and each line of a request, a test with its number, keeps
+-- that, whatever comes next. So each request is settled line by line. Assumes nothing.
+use Prim.Native.Nat.{ℕ, zero, suc}
+use native.Mathlib.Omega.{arith}
+use mathlib.Core.Path.{_≡_, refl, sym, ap, _∙_}
+use mathlib.Core.Bool.{Bool, true, false, cond, _&&_, _||_, not, false≢true}
+use mathlib.Core.Logic.{_⊎_, inl, inr, ⊎-elim}
+use mathlib.Core.List.{List, [], _∷_, _++_, map}
+use mathlib.Core.Option.{Option, none, some}
+use lib.IntN.{ℤ}
+use lib.Dec.{eqb, leb}
+use borrow.Author.Tests.{eqb-true}
+use Rattle.names.specs.Radix.{legalName}
+use Rattle.names.specs.Dates.{goodDate}
+use Rattle.names.proofs.Bools.{either}
+use Rattle.meaning.specs.declared.Op.{Op}
+use Rattle.meaning.specs.declared.Op.the-variants.{Lookup, Enter, Close, Abandon, Delete, Rename}
+use Rattle.meaning.specs.declared.Request.{Request}
+use Rattle.meaning.specs.Words.{Row, Entry, blocks, slotWords, chain}
+use Rattle.meaning.specs.Sound.{any, bad1, bad2, bad3, bad4, bad5, bad6, rule, fault}
+use Rattle.meaning.specs.Answers.{Outcome, refuse, success, passed, ifSound, unless, onRow, isNone, fileOf, openOn, write}
+use Rattle.meaning.specs.Requests.{shown, lookup, delete, emptying, goodChannel, wordOf, abandon, renaming, rename, closing, finalLength, closed, close, entryOf, fresh}
+use Rattle.meaning.specs.Enter.{Area, goodSize, sizeOf, tidied, areas, eligibles, wanted, atLeast, longEnough, firstFit, placed, enter}
+use Rattle.meaning.specs.Batch.{serveBy, serve}
+use Rattle.laws.specs.Refusals.{faults, asked, Among, Untouched, Settled, Demand1}
+
+-- a number is listed where a test of the whole list says so
+abbrev isAmong : ℕ → List ℕ → Bool
+isAmong n [] = false
+isAmong n (m ∷ ms) = eqb n m || isAmong n ms
+
+among : (n : ℕ) (ms : List ℕ) → isAmong n ms ≡ true → Among n ms
+among n [] h = absurd (false≢true h)
+among n (m ∷ ms) h = ⊎-elim (λ e. inl (eqb-true n m e)) (λ r. inr (among n ms r)) (either (eqb n m) (isAmong n ms) h)
+
+-- what is listed first is listed
+among-first : (n : ℕ) (ms ns : List ℕ) → Among n ms → Among n (ms ++ ns)
+among-first n [] ns h = absurd h
+among-first n (m ∷ ms) ns h = ⊎-elim inl (λ r. inr (among-first n ms ns r)) h
+
+module _ (ns : List ℕ) (d : List ℕ) where
+  refuse-settled : (n : ℕ) → Among n ns → Settled ns d (refuse n d)
+  unfolding refuse
+  refuse-settled n h =
+      record { number = inr h; refused = λ x. record { first = refl; length = refl; date = refl; words = refl } }
+
+  success-settled : (first length date : ℕ) (after : List ℕ) → Settled ns d (success first length date after)
+  unfolding success
+  success-settled first length date after = record { number = inl refl; refused = λ x. absurd (x refl) }
+
+  unless-settled : (n : ℕ) (t : Bool) (next : Unit {0} → Outcome) → Among n ns → Settled ns d (next tt) → Settled ns d (unless n t d next)
+  unless-settled n true next h s = s
+  unless-settled n false next h s = refuse-settled n h
+
+  row-settled : (n : ℕ) (r : Option Row) (next : Row → Outcome) → Among n ns → ((x : Row) → Settled ns d (next x)) → Settled ns d (onRow n r d next)
+  row-settled n none next h s = refuse-settled n h
+  row-settled n (some x) next h s = s x
+
+  passed-settled : (n : ℕ) (next : Unit {0} → Outcome) → (n ≡ 0) ⊎ Among n ns → Settled ns d (next tt) → Settled ns d (passed n d next)
+  passed-settled zero next h s = s
+  passed-settled (suc n) next h s = refuse-settled (suc n) (⊎-elim (λ e. absurd (omega arith)) (λ a. a) h)
+
+-- a fault's number is 0 or one of 1 to 6
+faultOf : (a b c e f g : Bool) → let n = rule 1 a λ _. rule 2 b λ _. rule 3 c λ _. rule 4 e λ _. rule 5 f λ _. rule 6 g λ _. 0 in (n ≡ 0) ⊎ Among n faults
+faultOf true b c e f g = inr (inl refl)
+faultOf false true c e f g = inr (inr (inl refl))
+faultOf false false true e f g = inr (inr (inr (inl refl)))
+faultOf false false false true f g = inr (inr (inr (inr (inl refl))))
+faultOf false false false false true g = inr (inr (inr (inr (inr (inl refl)))))
+faultOf false false false false false true = inr (inr (inr (inr (inr (inr (inl refl))))))
+faultOf false false false false false false = inl refl
+
+fault-listed : (v : ℕ) (d : List ℕ) → (fault v d ≡ 0) ⊎ Among (fault v d) faults
+unfolding fault
+fault-listed v d = faultOf (bad1 v d) (bad2 d) (bad3 d) (bad4 d) (bad5 v d) (bad6 d)
+
+-- a request: the faults first, then its own refusals
+sound-settled : (v : ℕ) (d ns : List ℕ) (next : Unit {0} → Outcome) → Settled (faults ++ ns) d (next tt) → Settled (faults ++ ns) d (ifSound v d next)
+sound-settled v d ns next s =
+    passed-settled (faults ++ ns) d (fault v d) next
+    (⊎-elim inl (λ a. inr (among-first (fault v d) faults ns a)) (fault-listed v d))
+    s
+
+module _ (v : ℕ) (d : List ℕ) where
+  -- lookup and delete: they differ in the words after
+  named-settled : (a b c : ℕ) (after : Row → List ℕ)
+      → Settled (faults ++ 7 ∷ 13 ∷ []) d
+      (ifSound v d λ _. unless 7 (legalName a b c) d λ _. onRow 13 (fileOf d a b c) d λ r. shown r (after r))
+  unfolding shown
+  named-settled a b c after =
+      let ns = faults ++ 7 ∷ 13 ∷ [] in
+      sound-settled v d (7 ∷ 13 ∷ []) _
+      (unless-settled ns d 7 (legalName a b c) _ (among 7 ns refl)
+      (row-settled ns d 13 (fileOf d a b c) _ (among 13 ns refl) (λ r. success-settled ns d _ _ _ _)))
+
+  abandon-settled : (job channel : ℕ) → Settled (faults ++ asked Abandon) d (abandon v d job channel)
+  unfolding abandon shown
+  abandon-settled job channel =
+      let ns = faults ++ asked Abandon in
+      sound-settled v d (asked Abandon) _
+      (unless-settled ns d 8 (goodChannel job channel) _ (among 8 ns refl)
+      (row-settled ns d 15 (openOn d (wordOf job channel)) _ (among 15 ns refl) (λ r. success-settled ns d _ _ _ _)))
+
+  rename-settled : (a b c a′ b′ c′ : ℕ) → Settled (faults ++ asked Rename) d (rename v d a b c a′ b′ c′)
+  unfolding rename shown
+  rename-settled a b c a′ b′ c′ =
+      let ns = faults ++ asked Rename in
+      sound-settled v d (asked Rename) _
+      (unless-settled ns d 7 (legalName a b c && legalName a′ b′ c′) _ (among 7 ns refl)
+      (row-settled ns d 13 (fileOf d a b c) _ (among 13 ns refl)
+      (λ r. unless-settled ns d 14 (isNone (fileOf d a′ b′ c′)) _ (among 14 ns refl) (success-settled ns d _ _ _ _))))
+
+  closed-settled : (r : Row) (n : Option ℕ) → Settled (faults ++ asked Close) d (closed d r n)
+  closed-settled r none = let ns = faults ++ asked Close in refuse-settled ns d 16 (among 16 ns refl)
+  closed-settled r (some n) =
+      let ns = faults ++ asked Close in
+      unless-settled ns d 16 (leb n (blocks (r .entry))) _ (among 16 ns refl) (success-settled ns d _ _ _ _)
+
+  close-settled : (job channel : ℕ) (final : ℤ) → Settled (faults ++ asked Close) d (close v d job channel final)
+  unfolding close
+  close-settled job channel final =
+      let ns = faults ++ asked Close in
+      sound-settled v d (asked Close) _
+      (unless-settled ns d 8 (goodChannel job channel) _ (among 8 ns refl)
+      (row-settled ns d 15 (openOn d (wordOf job channel)) _ (among 15 ns refl) (λ r. closed-settled r (finalLength final))))
+
+  placed-settled : (t : List ℕ) (n date : ℕ) (new : Entry) (a : Option Area) → Settled (faults ++ asked Enter) d (placed d t n date new a)
+  placed-settled t n date new none = let ns = faults ++ asked Enter in refuse-settled ns d 12 (among 12 ns refl)
+  placed-settled t n date new (some a) = success-settled (faults ++ asked Enter) d _ _ _ _
+
+  -- enter's own six refusals, whatever they test
+  six-settled : (a b c e f g : Bool) (o : Outcome) → Settled (faults ++ asked Enter) d o
+      → Settled (faults ++ asked Enter) d
+      (unless 7 a d λ _. unless 8 b d λ _. unless 9 c d λ _. unless 10 e d λ _. unless 11 f d λ _. unless 12 g d λ _. o)
+  six-settled a b c e f g o s =
+      let ns = faults ++ asked Enter in
+      unless-settled ns d 7 a (λ _. unless 8 b d λ _. unless 9 c d λ _. unless 10 e d λ _. unless 11 f d λ _. unless 12 g d λ _. o)
+      (among 7 ns refl)
+      (unless-settled ns d 8 b (λ _. unless 9 c d λ _. unless 10 e d λ _. unless 11 f d λ _. unless 12 g d λ _. o) (among 8 ns refl)
+      (unless-settled ns d 9 c (λ _. unless 10 e d λ _. unless 11 f d λ _. unless 12 g d λ _. o) (among 9 ns refl)
+      (unless-settled ns d 10 e (λ _. unless 11 f d λ _. unless 12 g d λ _. o) (among 10 ns refl)
+      (unless-settled ns d 11 f (λ _. unless 12 g d λ _. o) (among 11 ns refl)
+      (unless-settled ns d 12 g (λ _. o) (among 12 ns refl) s)))))
+
+  enter-settled : (a b c : ℕ) (asked-size : ℤ) (job channel date : ℕ)
+      → Settled (faults ++ asked Enter) d (enter v d a b c asked-size job channel date)
+  unfolding enter
+  enter-settled a b c asked-size job channel date =
+      let size = sizeOf asked-size in
+      let x = wordOf job channel in
+      let t = tidied d (chain d) in
+      let all = areas t (chain d) in
+      let fit = eligibles all in
+      let n = wanted size (map (λ r. r .size) fit) in
+      let new = entryOf (slotWords d) 256 a b c n x date in
+      let o = placed d t n date new (firstFit n fit) in
+      sound-settled v d (asked Enter) _
+      (six-settled (legalName a b c) (goodChannel job channel) (goodSize size && goodDate date) (isNone (openOn d x))
+      (longEnough (atLeast size) all)
+      (longEnough (atLeast size) fit)
+      o
+      (placed-settled t n date new (firstFit n fit)))
+
+  serve-settled : (op : Op) (q : Request) → Settled (faults ++ asked op) d (serveBy op v d q)
+  unfolding lookup delete
+  serve-settled Lookup q = named-settled (q .name .first) (q .name .second) (q .name .extension) (λ r. d)
+  serve-settled Enter q = enter-settled _ _ _ _ _ _ _
+  serve-settled Close q = close-settled _ _ _
+  serve-settled Abandon q = abandon-settled _ _
+  serve-settled Delete q = named-settled (q .name .first) (q .name .second) (q .name .extension) (λ r. write d (emptying r))
+  serve-settled Rename q = rename-settled _ _ _ _ _ _
+
+  start-settled : (extra : ℕ) → Settled (1 ∷ 2 ∷ []) d (fresh v d extra)
+  unfolding fresh
+  start-settled extra =
+      let ns : List ℕ = 1 ∷ 2 ∷ [] in
+      unless-settled ns d 1 (not (bad1 v d)) _ (among 1 ns refl)
+      (unless-settled ns d 2 (leb extra 16) _ (among 2 ns refl) (success-settled ns d _ _ _ _))
+
+  pub demand1 : Demand1 v d
+  unfolding serve
+  demand1 = record { requests = λ q. serve-settled (q .op) q; starts = start-settled }
