@@ -1,0 +1,4 @@
+pub mod Status
+pub mod Slots
+pub mod Scanning
+pub mod Searching

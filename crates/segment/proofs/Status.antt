@@ -1,0 +1,89 @@
+-- A status word and its kind. `kindOf` tries four numbers in turn: a number that is one of them computes; and a number that is
+-- known not to be one of them is left with the other three, none of which gives that one's kind. So the test of a kind is the
+-- test of its number. Assumes nothing.
+use Prim.Native.Nat.{ℕ}
+use mathlib.Core.Path.{_≡_, refl}
+use mathlib.Core.Bool.{Bool, true, false, cond}
+use lib.Dec.{eqb}
+use borrow.Author.Tests.{ne-eqb, eqb-true, eqb-false}
+use Rattle.meaning.specs.declared.Kind.{Kind}
+use Rattle.meaning.specs.declared.Kind.the-variants.{Tentative, Empty, Permanent, End, Unknown}
+use Rattle.meaning.specs.Kinds.{kindOf, isTentative, isEmpty, isPermanent, isEnd}
+
+pub tentative-is : (x : ℕ) → x ≡ 256 → isTentative (kindOf x) ≡ true
+unfolding kindOf
+tentative-is x e = rw e
+
+pub empty-is : (x : ℕ) → x ≡ 512 → isEmpty (kindOf x) ≡ true
+unfolding kindOf
+empty-is x e = rw e
+
+pub permanent-is : (x : ℕ) → x ≡ 1024 → isPermanent (kindOf x) ≡ true
+unfolding kindOf
+permanent-is x e = rw e
+
+pub end-is : (x : ℕ) → x ≡ 2048 → isEnd (kindOf x) ≡ true
+unfolding kindOf
+end-is x e = rw e
+
+-- what is left without a kind's own number, by the answers of the other three tests
+other-tentative : (a b c : Bool) → isTentative (cond a Empty (cond b Permanent (cond c End Unknown))) ≡ false
+other-tentative true b c = refl
+other-tentative false true c = refl
+other-tentative false false true = refl
+other-tentative false false false = refl
+
+other-empty : (a b c : Bool) → isEmpty (cond a Tentative (cond b Permanent (cond c End Unknown))) ≡ false
+other-empty true b c = refl
+other-empty false true c = refl
+other-empty false false true = refl
+other-empty false false false = refl
+
+other-permanent : (a b c : Bool) → isPermanent (cond a Tentative (cond b Empty (cond c End Unknown))) ≡ false
+other-permanent true b c = refl
+other-permanent false true c = refl
+other-permanent false false true = refl
+other-permanent false false false = refl
+
+other-end : (a b c : Bool) → isEnd (cond a Tentative (cond b Empty (cond c Permanent Unknown))) ≡ false
+other-end true b c = refl
+other-end false true c = refl
+other-end false false true = refl
+other-end false false false = refl
+
+pub tentative-not : (x : ℕ) → (x ≡ 256 → ⊥) → isTentative (kindOf x) ≡ false
+unfolding kindOf
+tentative-not x h = rw (ne-eqb x 256 h, other-tentative)
+
+pub empty-not : (x : ℕ) → (x ≡ 512 → ⊥) → isEmpty (kindOf x) ≡ false
+unfolding kindOf
+empty-not x h = rw (ne-eqb x 512 h, other-empty)
+
+pub permanent-not : (x : ℕ) → (x ≡ 1024 → ⊥) → isPermanent (kindOf x) ≡ false
+unfolding kindOf
+permanent-not x h = rw (ne-eqb x 1024 h, other-permanent)
+
+pub end-not : (x : ℕ) → (x ≡ 2048 → ⊥) → isEnd (kindOf x) ≡ false
+unfolding kindOf
+end-not x h = rw (ne-eqb x 2048 h, other-end)
+
+-- a test of the kind that a number m decides
+module _ (f : Kind → Bool) (m : ℕ) (is : (x : ℕ) → x ≡ m → f (kindOf x) ≡ true) where
+  by-number : ((x : ℕ) → (x ≡ m → ⊥) → f (kindOf x) ≡ false) → (x : ℕ) → f (kindOf x) ≡ eqb x m
+  by-number isnt x = go (eqb x m) refl
+    where
+      go : (t : Bool) → eqb x m ≡ t → f (kindOf x) ≡ t
+      go true e = is x (eqb-true x m e)
+      go false e = isnt x (eqb-false x m e)
+
+pub tentative-eqb : (x : ℕ) → isTentative (kindOf x) ≡ eqb x 256
+tentative-eqb = by-number isTentative 256 tentative-is tentative-not
+
+pub empty-eqb : (x : ℕ) → isEmpty (kindOf x) ≡ eqb x 512
+empty-eqb = by-number isEmpty 512 empty-is empty-not
+
+pub permanent-eqb : (x : ℕ) → isPermanent (kindOf x) ≡ eqb x 1024
+permanent-eqb = by-number isPermanent 1024 permanent-is permanent-not
+
+pub end-eqb : (x : ℕ) → isEnd (kindOf x) ≡ eqb x 2048
+end-eqb = by-number isEnd 2048 end-is end-not

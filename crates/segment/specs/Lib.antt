@@ -1,0 +1,3 @@
+pub mod Scan
+pub mod Finder
+pub mod Steps
