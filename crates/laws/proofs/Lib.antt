@@ -4,4 +4,3 @@ pub mod Rule5
 pub mod Rule6
 pub mod Sound
 pub mod Refusals
-pub mod Tidy

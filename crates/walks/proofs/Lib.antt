@@ -1,3 +1,6 @@
 pub mod Lists
 pub mod Linked
 pub mod Scanned
+pub mod Topped
+pub mod Fits
+pub mod Tidied

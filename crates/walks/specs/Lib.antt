@@ -1,2 +1,4 @@
 pub mod Links
 pub mod Scan
+pub mod Runs
+pub mod Top

@@ -1,0 +1,37 @@
+-- Enter's tidy of one segment's entries, as a machine meets them from left to right.
+use Prim.Native.Nat.{ℕ, _+_, _<_}
+use mathlib.Core.Bool.{Bool, cond, _&&_, not}
+use mathlib.Core.List.{List, [], _∷_, _++_}
+use lib.ListN.{length, set}
+use lib.Dec.{eqb}
+use Rattle.meaning.specs.Kinds.{isTentative}
+use Rattle.meaning.specs.Words.{Entry, lengthWord, kind, blocks}
+use Rattle.meaning.specs.Enter.{isArea}
+
+-- Either no run is open, and p says whether a tentative entry stands directly before; or a run of neighbouring empty entries is
+-- open: its first entry e, the sum t of its lengths so far, and p as it was before the run
+pub data Run : Type 0 where
+  calm : Bool → Run
+  within : Entry → ℕ → Bool → Run
+
+-- an empty entry more
+abbrev pub absorb : Run → Entry → Run
+absorb (calm p) f = within f (blocks f) p
+absorb (within e t p) f = within e (t + blocks f) p
+
+-- a run becomes its first entry with the summed length; a zero sum is dropped unless a tentative entry stands before it
+abbrev pub flushed : Run → List Entry
+flushed (calm p) = []
+flushed (within e t p) = cond (eqb t 0 && not p) [] (set e lengthWord t ∷ [])
+
+unfoldable pub tidyFrom : Run → List Entry → List Entry
+tidyFrom r [] = flushed r
+tidyFrom r (f ∷ fs) =
+    let a = tidyFrom (absorb r f) fs in
+    let b = tidyFrom (calm (isTentative (kind f))) fs in
+    cond (isArea f) a (flushed r ++ f ∷ b)
+
+-- every entry has a length word, so that it can be set
+abbrev pub Long : List Entry → Type 0
+Long [] = Unit
+Long (e ∷ es) = (lengthWord < length e) × Long es
