@@ -32,7 +32,7 @@ mul-words-3 : tie.Need-mul-words-3
 mul-words-3 c = search needs
 
 slice-write-words-3 : tie.Need-slice-write-words-3
-slice-write-words-3 c = search needs
+slice-write-words-3 c = simp length-set (omega arith)
 
 same-length : tie.Need-same-length
 same-length c = search needs
