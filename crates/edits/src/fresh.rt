@@ -2,7 +2,7 @@
 ghost use mathlib.Core.Path.{_≡_};
 ghost use Prim.Native.Nat.{_≤_};
 ghost use lib.ListN.{length, replicate};
-ghost use Rattle.edits.specs.Sized.{Sized};
+ghost use Rattle.walks.specs.Heads.{Sized};
 ghost use Rattle.meaning.specs.Requests.{freshWords};
 
 fn clear(words: &mut [u16])

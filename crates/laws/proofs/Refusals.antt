@@ -2,8 +2,8 @@
 -- that, whatever comes next. So each request is settled line by line. Assumes nothing.
 use Prim.Native.Nat.{ℕ, zero, suc}
 use native.Mathlib.Omega.{arith}
-use mathlib.Core.Path.{_≡_, refl, sym, ap, _∙_}
-use mathlib.Core.Bool.{Bool, true, false, cond, _&&_, _||_, not, false≢true}
+use mathlib.Core.Path.{_≡_, refl}
+use mathlib.Core.Bool.{Bool, true, false, _&&_, _||_, not, false≢true}
 use mathlib.Core.Logic.{_⊎_, inl, inr, ⊎-elim}
 use mathlib.Core.List.{List, [], _∷_, _++_, map}
 use mathlib.Core.Option.{Option, none, some}
@@ -17,12 +17,12 @@ use Rattle.meaning.specs.declared.Op.{Op}
 use Rattle.meaning.specs.declared.Op.the-variants.{Lookup, Enter, Close, Abandon, Delete, Rename}
 use Rattle.meaning.specs.declared.Request.{Request}
 use Rattle.meaning.specs.Words.{Row, Entry, blocks, slotWords, chain}
-use Rattle.meaning.specs.Sound.{any, bad1, bad2, bad3, bad4, bad5, bad6, rule, fault}
+use Rattle.meaning.specs.Sound.{bad1, bad2, bad3, bad4, bad5, bad6, rule, fault}
 use Rattle.meaning.specs.Answers.{Outcome, refuse, success, passed, ifSound, unless, onRow, isNone, fileOf, openOn, write}
-use Rattle.meaning.specs.Requests.{shown, lookup, delete, emptying, goodChannel, wordOf, abandon, renaming, rename, closing, finalLength, closed, close, entryOf, fresh}
+use Rattle.meaning.specs.Requests.{shown, lookup, delete, emptying, goodChannel, wordOf, abandon, rename, finalLength, closed, close, entryOf, fresh}
 use Rattle.meaning.specs.Enter.{Area, goodSize, sizeOf, tidied, areas, eligibles, wanted, atLeast, longEnough, firstFit, placed, enter}
 use Rattle.meaning.specs.Batch.{serveBy, serve}
-use Rattle.laws.specs.Refusals.{faults, asked, Among, Untouched, Settled, Demand1}
+use Rattle.laws.specs.Refusals.{faults, asked, Among, Settled, Demand1}
 
 -- a number is listed where a test of the whole list says so
 abbrev isAmong : ℕ → List ℕ → Bool

@@ -1,80 +1,39 @@
--- Rules 1, 2 and 5 as their tests say them. Rules 1 and 2 are tests of numbers, one by one. Rule 5: along the chain each segment is held
+-- Rules 1, 2 and 5 as their tests say them. Rules 1 and 2 are numbers, which walks has. Rule 5: along the chain each segment is held
 -- to the block that the one before it ended at, and the last end to V; by induction on how many segments follow. Assumes nothing.
-use Prim.Native.Nat.{ℕ, zero, suc, _+_, _*_, _-_, _%_, _≤_, _<_}
+use Prim.Native.Nat.{ℕ, zero, suc, _+_, _-_, _≤_, _<_}
 use native.Mathlib.Omega.{arith}
 use native.Mathlib.Numerals.{add-one}
 use native.Mathlib.Nat.{le-of-suc-le-suc, not-suc-le-zero}
 use mathlib.Core.Path.{_≡_, refl, sym, ap, _∙_}
-use mathlib.Core.Bool.{Bool, true, false, _&&_, not}
-use mathlib.Core.List.{List, [], _∷_}
-use lib.ListN.{length}
-use lib.Dec.{eqb, leb}
-use borrow.Author.Tests.{leb-true, eqb-true, le-leb, eq-eqb, not-false}
+use mathlib.Core.Bool.{true, false, not}
+use mathlib.Core.List.{List}
+use lib.Dec.{eqb}
+use borrow.Author.Tests.{eqb-true, eq-eqb, not-false}
 use Rattle.names.proofs.Bools.{both}
-use Rattle.meaning.specs.Words.{segments, firstData, segment, totalOf, extraBytesOf, firstOf, highest, entries, total, chainFrom, reached, chain}
+use Rattle.meaning.specs.Words.{segments, firstData, segment, firstOf, highest, entries, total, chainFrom, reached, chain}
 use Rattle.meaning.specs.Sound.{bad1, bad2, filled, bad5}
+use Rattle.walks.proofs.Heads.{sized, sized-tested, headed, headed-tested}
 use Rattle.walks.proofs.Lists.{next}
-use Rattle.laws.specs.Sound.{Rule1, Rule2, visit, endOf, Rule5}
+use Rattle.laws.specs.Sound.{Rule1, Rule2, endOf, Rule5}
 
--- five tests, all true
-all-five : (a b c d e : Bool) → a && b && c && d && e ≡ true → (a ≡ true) × (b ≡ true) × (c ≡ true) × (d ≡ true) × (e ≡ true)
-all-five a b c d e h =
-    let p = both (a && b && c && d) e h in
-    let q = both (a && b && c) d (p .0) in
-    let r = both (a && b) c (q .0) in
-    let s = both a b (r .0) in
-    (s .0, s .1, r .1, q .1, p .1)
-
+-- rules 1 and 2, by their numbers
 pub rule1-holds : (v : ℕ) (d : List ℕ) → bad1 v d ≡ false → Rule1 v d
-unfolding bad1
 rule1-holds v d h =
-    let p =
-    all-five (leb 1 (segments d)) (leb (segments d) 31) (eqb (length d) (512 * segments d)) (leb (firstData d) v) (leb v 65535)
-    (not-false _ h) in
-    record {
-      some = leb-true 1 (segments d) (p .0);
-      few = leb-true (segments d) 31 (p .1);
-      whole = eqb-true (length d) (512 * segments d) (p .2);
-      room = leb-true (firstData d) v (p .3);
-      wide = leb-true v 65535 (p .4);
-    }
+    let s = sized v d h in
+    record { some = s .some; few = s .few; whole = s .whole; room = s .room; wide = s .wide }
 
 pub rule1-tested : (v : ℕ) (d : List ℕ) → Rule1 v d → bad1 v d ≡ false
-unfolding bad1
 rule1-tested v d r =
-    rw (
-      le-leb 1 (segments d) (r .some),
-      le-leb (segments d) 31 (r .few),
-      eq-eqb (length d) (512 * segments d) (r .whole),
-      le-leb (firstData d) v (r .room),
-      le-leb v 65535 (r .wide),
-    )
+    sized-tested v d (record { some = r .some; few = r .few; whole = r .whole; room = r .room; wide = r .wide })
 
 pub rule2-holds : (d : List ℕ) → bad2 d ≡ false → Rule2 d
-unfolding bad2
 rule2-holds d h =
-    let p =
-    all-five (eqb (totalOf d) (segments d)) (leb 1 (highest d)) (leb (highest d) (segments d)) (eqb (extraBytesOf d % 2) 0)
-    (leb (extraBytesOf d) 32)
-    (not-false _ h) in
-    record {
-      total = eqb-true (totalOf d) (segments d) (p .0);
-      used = leb-true 1 (highest d) (p .1);
-      within = leb-true (highest d) (segments d) (p .2);
-      even = eqb-true (extraBytesOf d % 2) 0 (p .3);
-      few = leb-true (extraBytesOf d) 32 (p .4);
-    }
+    let s = headed d h in
+    record { total = s .total; used = s .used; within = s .within; even = s .even; few = s .few }
 
 pub rule2-tested : (d : List ℕ) → Rule2 d → bad2 d ≡ false
-unfolding bad2
 rule2-tested d r =
-    rw (
-      eq-eqb (totalOf d) (segments d) (r .total),
-      le-leb 1 (highest d) (r .used),
-      le-leb (highest d) (segments d) (r .within),
-      eq-eqb (extraBytesOf d % 2) 0 (r .even),
-      le-leb (extraBytesOf d) 32 (r .few),
-    )
+    headed-tested d (record { total = r .total; used = r .used; within = r .within; even = r .even; few = r .few })
 
 -- segment s begins at b, each of the n after it where the one before it ended, and the last ends at V
 pub record Runs (v : ℕ) (d : List ℕ) (s b n : ℕ) : Type 0 where

@@ -7,7 +7,6 @@ use mathlib.Core.Path.{_≡_, refl, sym, _∙_}
 use mathlib.Core.Bool.{Bool, true, false, true≢false}
 use mathlib.Core.Logic.{_↔_, _⊎_, inl, inr, ⊎-elim}
 use mathlib.Core.List.{List}
-use Rattle.meaning.specs.Words.{highest}
 use Rattle.meaning.specs.Sound.{rule, bad1, bad2, bad3, bad4, bad5, bad6, fault}
 use Rattle.laws.specs.Sound.{Rule1, Rule2, Rule3, Rule4, Rule5, Rule6, Rules, Exactly}
 use Rattle.laws.proofs.Rule3.{rule3-holds, rule3-tested}

@@ -7,7 +7,7 @@ use mathlib.Core.List.{List, []}
 use lib.ListN.{length, getD}
 use Rattle.meaning.specs.Sound.{fault}
 use Rattle.meaning.specs.declared.Kind.{Kind}
-use Rattle.meaning.specs.declared.Kind.the-variants.{Tentative, Empty, Permanent, End, Unknown}
+use Rattle.meaning.specs.declared.Kind.the-variants.{Tentative, Empty, Permanent, End}
 use Rattle.meaning.specs.Words.{segments, firstData, segment, totalOf, extraBytesOf, firstOf, highest, slotWords, Entry}
 use Rattle.meaning.specs.Words.{nameWord, name2Word, extensionWord, kind, channelOf, slots, entries, total, reached, allEntries}
 

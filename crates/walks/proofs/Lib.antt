@@ -1,3 +1,4 @@
+pub mod Heads
 pub mod Lists
 pub mod Linked
 pub mod Scanned

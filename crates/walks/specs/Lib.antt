@@ -1,3 +1,4 @@
+pub mod Heads
 pub mod Links
 pub mod Scan
 pub mod Runs
