@@ -1,0 +1,6 @@
+pub mod Chained
+pub mod Head
+pub mod Measure
+pub mod Find
+pub mod Candidates
+pub mod Buckets
