@@ -1,2 +1,4 @@
 pub mod Sound
 pub mod Refusals
+pub mod Order
+pub mod Kept

@@ -1,0 +1,131 @@
+-- A change that keeps the shape keeps a directory sound, if each key comes afterwards from one key at most: it is found where
+-- that was, with the entry read anew and the first block unchanged. A key that the change does not name is found as before, row
+-- for row.
+use Prim.Native.Nat.{ℕ, _-_, _≤_}
+use mathlib.Core.Path.{_≡_, refl, sym, _∙_, subst}
+use mathlib.Core.Bool.{Bool, true, false, false≢true}
+use mathlib.Core.List.{List, [], _∷_, map}
+use mathlib.Core.Option.{Option, none, some, Option·map}
+use native.Mathlib.Omega.{arith}
+use Rattle.names.proofs.Bools.{never}
+use Rattle.meaning.specs.Words.{slotWords, Entry, chain, Row, rows, allEntries}
+use Rattle.meaning.specs.Answers.{find}
+use Rattle.laws.specs.Order.{Key, All}
+use Rattle.laws.proofs.Alls.{all-map}
+use Rattle.laws.proofs.Keys.{holds, one-key, empty-holds, count}
+use Rattle.laws.proofs.Grid.{entryAt}
+use Rattle.laws.proofs.Soundness.{Sound}
+use Rattle.laws.proofs.Touch.{Touch, keep, area, gone, made, live-still, shifted}
+use Rattle.laws.proofs.Move.{Move, chain-same, bad1-same, bad2-same, linked-same, readable-kept, filled-same, rows-moved}
+use Rattle.laws.proofs.Rows.{Stand, standing, entry-of, entries-rows, few-rows, find-some, find-tied, count-tied}
+
+-- whether the key k is that of the row afterwards, by a test of its entry before
+abbrev pub After : List ℕ → List ℕ → Key → (Entry → Bool) → Row → Type 0
+After d d′ k u r = holds k (entryAt d′ (slotWords d) (r .at)) ≡ u (r .entry)
+
+abbrev pub nothing : Entry → Bool
+nothing e = false
+
+-- where a key comes from: it is none of C and stays; from one key; from nowhere
+pub data Source (C : Key → Type 0) (d d′ : List ℕ) (k : Key) : Type 0 where
+  other : (C k → ⊥) → Source C d d′ k
+  from : (u : Key) → All (After d d′ k (holds u)) (rows d) → Source C d d′ k
+  nowhere : All (After d d′ k nothing) (rows d) → Source C d d′ k
+
+-- for a key that is not of C the slot is the same, or the key is neither the one's nor the other's
+data Alike (k : Key) (x : ℕ) (e e′ : Entry) : Type 0 where
+  equal : e′ ≡ e → x ≡ 0 → Alike k x e e′
+  neither : holds k e ≡ false → holds k e′ ≡ false → Alike k x e e′
+
+not-of : (C : Key → Type 0) (k l : Key) (e : Entry) → (C k → ⊥) → C l → holds l e ≡ true → holds k e ≡ false
+not-of C k l e out c h = never (holds k e) (λ g. out (subst C (one-key l k e h g) c))
+
+alike : {C : Key → Type 0} {x : ℕ} {e e′ : Entry} (k : Key) → (C k → ⊥) → Touch C x e e′ → Alike k x e e′
+alike k out (keep h z) = equal h z
+alike {e = e} {e′ = e′} k out (area h g) = neither (empty-holds k e h) (empty-holds k e′ g)
+alike {C} {e = e} {e′ = e′} k out (gone l c h g z) = neither (not-of C k l e out c h) (empty-holds k e′ g)
+alike {C} {e = e} {e′ = e′} k out (made l m c h c′ h′ g b z) = neither (not-of C k l e out c h) (not-of C k m e′ out c′ h′)
+
+alike-holds : {k : Key} {x : ℕ} {e e′ : Entry} → Alike k x e e′ → holds k e′ ≡ holds k e
+alike-holds (equal h z) = rw h
+alike-holds (neither g g′) = rw (g, g′)
+
+alike-held : {k : Key} {x : ℕ} {e e′ : Entry} → Alike k x e e′ → holds k e ≡ true → e′ ≡ e
+alike-held (equal h z) t = h
+alike-held (neither g g′) t = absurd (false≢true (sym g ∙ t))
+
+count-nothing : (es : List Entry) → count nothing es ≡ 0
+unfolding count
+count-nothing [] = refl
+count-nothing (e ∷ es) = rw (count-nothing es)
+
+find-nothing : (rs : List Row) → find nothing rs ≡ none
+unfolding find
+find-nothing [] = refl
+find-nothing (r ∷ rs) = find-nothing rs
+
+-- a row with its entry read anew
+abbrev pub reread : List ℕ → List ℕ → Row → Row
+reread d d′ r = record { seg = r .seg; slot = r .slot; at = r .at; first = r .first; entry = entryAt d′ (slotWords d) (r .at) }
+
+module _ (v : ℕ) (C : Key → Type 0) (δ : ℕ → ℕ) (d d′ : List ℕ) (s : Sound v d) (m : Move C δ d d′) where
+  abbrev f′ : ℕ → Entry
+  f′ p = entryAt d′ (slotWords d) p
+
+  -- a key that is not of C: the same test before
+  pub still-after : (k : Key) → (C k → ⊥) → All (After d d′ k (holds k)) (rows d)
+  still-after k out = all-map (Stand d) (After d d′ k (holds k)) same (rows d) (standing v d s)
+    where
+      same : (r : Row) → Stand d r → After d d′ k (holds k) r
+      same r x = rw (x .is) (alike-holds (alike k out (m .at (r .at) (x .slot .on) .touch)))
+
+  tests : (k : Key) (u : Entry → Bool) → All (After d d′ k u) (rows d) → count u (map entry-of (rows d)) ≤ 1
+      → count (holds k) (allEntries d′) ≤ 1
+  tests k u a l =
+      rw (← (entries-rows d′), rows-moved C δ d d′ m, count-tied (holds k) u (shifted δ f′) (rows d) a) l
+
+  once : (k : Key) → Source C d d′ k → count (holds k) (allEntries d′) ≤ 1
+  once k (other out) = tests k (holds k) (still-after k out) (few-rows v d s k)
+  once k (from u a) = tests k (holds u) a (few-rows v d s u)
+  once k (nowhere a) = tests k nothing a (let z = count-nothing (map entry-of (rows d)) in omega arith)
+
+  pub stays-sound : ((k : Key) → Source C d d′ k) → Sound v d′
+  stays-sound t =
+      record {
+        size = bad1-same C δ d d′ m v ∙ s .size;
+        header = bad2-same C δ d d′ m ∙ s .header;
+        links = linked-same C δ d d′ m ∙ s .links;
+        readable = rw (chain-same C δ d d′ m) (readable-kept C δ d d′ m (chain d) (s .readable));
+        full = filled-same C δ d d′ m v (s .readable) ∙ s .full;
+        keys = λ k. once k (t k);
+      }
+
+  -- where a key is found afterwards
+  found-some : (k u : Key) → All (After d d′ k (holds u)) (rows d) → (o : Option Row) → find (holds u) (rows d) ≡ o
+      → find (holds k) (rows d′) ≡ Option·map (reread d d′) o
+  found-some k u a none e =
+      rw (rows-moved C δ d d′ m, find-tied (holds k) (holds u) (shifted δ f′) (rows d) a, e)
+  found-some k u a (some r) e =
+      let x = find-some (Stand d) (holds u) (rows d) r (standing v d s) e in
+      let z : δ (r .at) ≡ 0 = live-still u (m .at (r .at) (x .0 .slot .on) .touch) (rw (x .0 .is) at (x .1)) in
+      let y : r .first - δ (r .at) ≡ r .first = omega arith in
+      rw (rows-moved C δ d d′ m, find-tied (holds k) (holds u) (shifted δ f′) (rows d) a, e, y)
+
+  pub found-from : (k u : Key) → All (After d d′ k (holds u)) (rows d)
+      → find (holds k) (rows d′) ≡ Option·map (reread d d′) (find (holds u) (rows d))
+  found-from k u a = found-some k u a (find (holds u) (rows d)) refl
+
+  pub found-nowhere : (k : Key) → All (After d d′ k nothing) (rows d) → find (holds k) (rows d′) ≡ none
+  found-nowhere k a =
+      rw (rows-moved C δ d d′ m, find-tied (holds k) nothing (shifted δ f′) (rows d) a, find-nothing (rows d))
+
+  reread-same : (k : Key) → (C k → ⊥) → (o : Option Row) → find (holds k) (rows d) ≡ o → Option·map (reread d d′) o ≡ o
+  reread-same k out none e = refl
+  reread-same k out (some r) e =
+      let x = find-some (Stand d) (holds k) (rows d) r (standing v d s) e in
+      let y = alike-held (alike k out (m .at (r .at) (x .0 .slot .on) .touch)) (rw (x .0 .is) at (x .1)) in
+      let z : entryAt d′ (slotWords d) (r .at) ≡ r .entry = y ∙ sym (x .0 .is) in
+      rw z
+
+  pub found-other : (k : Key) → (C k → ⊥) → find (holds k) (rows d′) ≡ find (holds k) (rows d)
+  found-other k out = found-from k k (still-after k out) ∙ reread-same k out (find (holds k) (rows d)) refl

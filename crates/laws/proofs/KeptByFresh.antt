@@ -1,0 +1,236 @@
+-- A fresh start that succeeds leaves a sound directory: one segment in use, with one empty entry that has all data blocks, and
+-- the marker after it. The words that the rules look at are read off once; the rules follow from them for any list that has
+-- these words.
+use Prim.Native.Nat.{ℕ, zero, suc, _+_, _*_, _-_, _≤_, _<_}
+use native.Mathlib.Nat.{le-div-iff-mul-le}
+use native.Mathlib.Omega.{arith}
+use mathlib.Core.Path.{_≡_, refl, ap, _∙_}
+use mathlib.Core.Bool.{Bool, true, false}
+use mathlib.Core.List.{List, [], _∷_, _++_, map}
+use lib.ListN.{length, getD, replicate, length-append, length-take, length-replicate, List·getD-append}
+use lib.Seq.{getD-take, getD-append-add, getD-at}
+use lib.Dec.{leb}
+use borrow.Author.Tests.{leb-true, eq-eqb}
+use Rattle.meaning.specs.declared.Kind.the-variants.{Empty, End}
+use Rattle.meaning.specs.Kinds.{kindOf}
+use Rattle.meaning.specs.Words.{segments, firstData, segment, highest, slotWords, slotCount, Entry, kind, upto, entries, total}
+use Rattle.meaning.specs.Words.{chainFrom, chain, entriesOf, allEntries}
+use Rattle.meaning.specs.Sound.{fault, bad1, filled}
+use Rattle.meaning.specs.Answers.{refuse, success}
+use Rattle.meaning.specs.Requests.{entryOf, flat, render, freshWords, fresh}
+use Rattle.walks.specs.Links.{linked}
+use Rattle.walks.specs.Scan.{scanBad}
+use Rattle.laws.specs.Sound.{Rule1, Rule2}
+use Rattle.laws.specs.Order.{Key, All}
+use Rattle.laws.proofs.Rule5.{rule1-holds, rule1-tested, rule2-tested}
+use Rattle.laws.proofs.Keys.{holds, empty-holds, count}
+use Rattle.laws.proofs.Grid.{entryAt, word-at, grid, slots-grid}
+use Rattle.laws.proofs.Soundness.{slotsOf, Readable, Sound, faultless}
+
+-- the words that the rules look at, in a directory of N segments with E extra words
+pub record Started (v N E : ℕ) (D : List ℕ) : Type 0 where
+  pub size : length D ≡ 512 * N
+  pub total : getD D 0 0 ≡ N
+  pub link : getD D 1 0 ≡ 0
+  pub highest : getD D 2 0 ≡ 1
+  pub bytes : getD D 3 0 ≡ 2 * E
+  pub first : getD D 4 0 ≡ 6 + 2 * N
+  pub status : getD D 5 0 ≡ 512
+  pub length : getD D 9 0 ≡ v - (6 + 2 * N)
+  pub marker : getD D (5 + (7 + E)) 0 ≡ 2048
+
+-- read off
+module _ (v N E : ℕ) (least : 1 ≤ N) (most : E ≤ 16) where
+  abbrev header : List ℕ
+  header = N ∷ 0 ∷ 1 ∷ 2 * E ∷ (6 + 2 * N) ∷ []
+
+  abbrev entry : Entry
+  entry = entryOf (7 + E) 512 0 0 0 (v - (6 + 2 * N)) 0 0
+
+  abbrev started : List ℕ
+  started = render header (entry ∷ []) ++ replicate (512 * (N - 1)) 0
+
+  abbrev end : List ℕ
+  end = 2048 ∷ replicate 512 0
+
+  entry-length : length entry ≡ 7 + E
+  unfolding entryOf
+  entry-length = let l = length-replicate {A = ℕ} (7 + E - 7) 0 in omega arith
+
+  end-length : length end ≡ 513
+  end-length = ap suc (length-replicate {A = ℕ} 512 0)
+
+  segment-length : length (render header (entry ∷ [])) ≡ 512
+  unfolding render flat
+  segment-length =
+      length-take 512 (header ++ (entry ++ end))
+      ∙ (let a = length-append header (entry ++ end) in
+      let b = length-append entry end in
+      let c = entry-length in
+      let e = end-length in
+      omega arith)
+
+  all-length : length started ≡ 512 * N
+  all-length =
+      length-append (render header (entry ∷ [])) (replicate (512 * (N - 1)) 0)
+      ∙ (rw (segment-length, length-replicate {A = ℕ} (512 * (N - 1)) 0) (omega arith))
+
+  marked : getD (render header (entry ∷ [])) (5 + (7 + E)) 0 ≡ 2048
+  unfolding render flat
+  marked =
+      getD-take 512 (header ++ (entry ++ end)) (5 + (7 + E)) 0 (omega arith)
+      ∙ getD-append-add header (entry ++ end) (7 + E) 0
+      ∙ getD-at entry 2048 (replicate 512 0) 0 (7 + E) entry-length
+
+  is-started : Started v N E started
+  unfolding render flat entryOf
+  is-started =
+      record {
+        size = all-length;
+        total = refl;
+        link = refl;
+        highest = refl;
+        bytes = refl;
+        first = refl;
+        status = refl;
+        length = refl;
+        marker =
+            List·getD-append (render header (entry ∷ [])) (replicate (512 * (N - 1)) 0) 0 (5 + (7 + E))
+            (let l = segment-length in omega arith)
+            ∙ marked;
+      }
+
+-- the rules
+module _ (v N E : ℕ) (D : List ℕ) (some : 1 ≤ N) (few : N ≤ 31) (most : E ≤ 16) (room : 6 + 2 * N ≤ v) (wide : v ≤ 65535)
+    (s : Started v N E D) where
+  many : segments D ≡ N
+  many = rw (s .size) (omega arith)
+
+  width : slotWords D ≡ 7 + E
+  width = rw (s .bytes) (omega arith)
+
+  head : (j : ℕ) → j < 512 → getD (segment D 1) j 0 ≡ getD D j 0
+  unfolding segment
+  head j h = getD-take 512 D j 0 h
+
+  chained : chain D ≡ 1 ∷ []
+  unfolding chain chainFrom
+  chained = rw (s .highest)
+
+  rule1 : Rule1 v D
+  rule1 =
+      record {
+        some = rw many some;
+        few = rw many few;
+        whole = rw many (s .size);
+        room = rw many room;
+        wide = wide;
+      }
+
+  rule2 : Rule2 D
+  rule2 =
+      record {
+        total = rw many (s .total);
+        used = rw (s .highest) (omega arith);
+        within = rw (many, s .highest) some;
+        even = rw (s .bytes) (omega arith);
+        few = rw (s .bytes) (omega arith);
+      }
+
+  links : linked (highest D) D 1 ≡ true
+  unfolding linked
+  links =
+      rw (
+        s .highest,
+        head 0 (omega arith),
+        head 1 (omega arith),
+        head 3 (omega arith),
+        s .total,
+        s .link,
+        s .bytes,
+        eq-eqb N N refl,
+        eq-eqb (2 * E) (2 * E) refl,
+        s .highest,
+      )
+
+  -- the first two slots
+  two : (n : ℕ) → 2 ≤ n → grid n (7 + E) 5 ≡ 5 ∷ (5 + (7 + E)) ∷ grid (n - 2) (7 + E) (5 + (7 + E) + (7 + E))
+  unfolding grid
+  two zero h = absurd (omega arith)
+  two (suc zero) h = absurd (omega arith)
+  two (suc (suc n)) h = let e : suc (suc n) - 2 ≡ n = omega arith in rw e
+
+  slots-are : slotsOf D 1
+      ≡ entryAt D (7 + E) 5
+      ∷ entryAt D (7 + E) (5 + (7 + E))
+      ∷ map (entryAt D (7 + E)) (grid (slotCount (7 + E) - 2) (7 + E) (5 + (7 + E) + (7 + E)))
+  slots-are =
+      rw width
+      (slots-grid (7 + E) D 1
+      ∙ ap (map (entryAt D (7 + E))) (two (slotCount (7 + E)) (le-div-iff-mul-le (omega arith) .1 (omega arith))))
+
+  empty-first : kind (entryAt D (7 + E) 5) ≡ Empty
+  unfolding kindOf
+  empty-first = rw (word-at D (7 + E) 5 0 (omega arith), s .status)
+
+  then-end : kind (entryAt D (7 + E) (5 + (7 + E))) ≡ End
+  unfolding kindOf
+  then-end =
+      let e : 5 + (7 + E) + 0 ≡ 5 + (7 + E) = omega arith in
+      rw (word-at D (7 + E) (5 + (7 + E)) 0 (omega arith), e, s .marker)
+
+  entries-are : entries D 1 ≡ entryAt D (7 + E) 5 ∷ []
+  unfolding entries upto
+  entries-are = rw (slots-are, empty-first, then-end)
+
+  readable : All (Readable D) (chain D)
+  unfolding scanBad
+  readable = rw chained (rw (slots-are, empty-first, then-end), tt)
+
+  full : filled v D (firstData D) (chain D) ≡ true
+  unfolding filled total
+  full =
+      let e : 6 + 2 * N + (v - (6 + 2 * N) + 0) ≡ v = omega arith in
+      rw (
+        chained,
+        many,
+        entries-are,
+        head 4 (omega arith),
+        s .first,
+        word-at D (7 + E) 5 4 (omega arith),
+        s .length,
+        e,
+        eq-eqb (6 + 2 * N) (6 + 2 * N) refl,
+        eq-eqb v v refl,
+      )
+
+  keys : (k : Key) → count (holds k) (allEntries D) ≤ 1
+  unfolding allEntries entriesOf count
+  keys k = rw (chained, entries-are, empty-holds k (entryAt D (7 + E) 5) empty-first) (omega arith)
+
+  started-sound : Sound v D
+  started-sound =
+      record {
+        size = rule1-tested v D rule1;
+        header = rule2-tested D rule2;
+        links = links;
+        readable = readable;
+        full = full;
+        keys = keys;
+      }
+
+pub kept-by-fresh : (v : ℕ) (d : List ℕ) (extra : ℕ) → fresh v d extra .answer .number ≡ 0 → fault v (fresh v d extra .words) ≡ 0
+unfolding fresh freshWords refuse success
+kept-by-fresh v d extra = go (bad1 v d) refl (leb extra 16) refl
+  where
+    go : (x : Bool) → bad1 v d ≡ x → (y : Bool) → leb extra 16 ≡ y → fresh v d extra .answer .number ≡ 0
+        → fault v (fresh v d extra .words) ≡ 0
+    go true i y j h = absurd (let z : 1 ≡ 0 = rw i at h in omega arith)
+    go false i false j h = absurd (let z : 2 ≡ 0 = rw (i, j) at h in omega arith)
+    go false i true j h =
+        let r = rule1-holds v d i in
+        let l = leb-true extra 16 j in
+        rw (i, j)
+        (faultless v _
+        (started-sound v (segments d) extra _ (r .some) (r .few) l (r .room) (r .wide)
+        (is-started v (segments d) extra (r .some) l)))

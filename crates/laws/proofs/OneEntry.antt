@@ -1,0 +1,176 @@
+-- Writes to one entry that are good: the entry of a key becomes empty, by a delete or an abandon; the entry of a file gets a
+-- name that no file has, by a rename.
+use Prim.Native.Nat.{ℕ, _+_, _<_}
+use native.Mathlib.Decide.{ℕ-discrete}
+use native.Mathlib.Omega.{arith}
+use mathlib.Core.Path.{_≡_, refl, sym, ap, _∙_, subst}
+use mathlib.Core.Logic.{inl, inr}
+use mathlib.Core.Bool.{true, false}
+use mathlib.Core.List.{List, [], _∷_}
+use lib.ListN.{set}
+use Rattle.names.proofs.Bools.{never}
+use Rattle.meaning.specs.Words.{slotWords, Entry, statusWord, nameWord, name2Word, extensionWord, blocks, dateOf, Row, rows}
+use Rattle.meaning.specs.Sound.{longName}
+use Rattle.meaning.specs.Answers.{Write, put, write}
+use Rattle.meaning.specs.Requests.{emptying, renaming}
+use Rattle.laws.specs.Order.{Key, file, All}
+use Rattle.laws.proofs.Alls.{all-map, all-both}
+use Rattle.laws.proofs.Grid.{entryAt, OnGrid}
+use Rattle.laws.proofs.Writes.{Fit, edit, sets, To, edit-to, edit-away, at-write}
+use Rattle.laws.proofs.Keys.{holds, IsFile, is-file, file-holds, empty-holds, other-key}
+use Rattle.laws.proofs.Touch.{Touch, keep, gone, made}
+use Rattle.laws.proofs.Rows.{Stand, Fails, Only}
+use Rattle.laws.proofs.Keeps.{After, nothing, Source}
+use Rattle.laws.proofs.Entries.{slot-seven, Cleared, cleared, Renamed, renamed, file-short}
+use Rattle.laws.proofs.Good.{Owned, mine, Owns, Good, One, Two, Gone, Made, gone-source, made-source, good, after-writes}
+
+module _ (d : List ℕ) (st : All (Stand d) (rows d)) where
+  abbrev w : ℕ
+  w = slotWords d
+
+  abbrev f : ℕ → Entry
+  f p = entryAt d (slotWords d) p
+
+  -- writes ws to the entry of the row r, of the key k, make e of it
+  module _ (r : Row) (s : Stand d r) (k : Key) (h : holds k (r .entry) ≡ true) (only : All (Only (holds k) (r .at)) (rows d))
+      (ws : List Write) (to : All (To (r .at)) ws) (within : All (λ (x : Write). x .word < w) ws) (e : Entry)
+      (is : sets (f (r .at)) ws ≡ e) where
+    key-at : holds k (f (r .at)) ≡ true
+    key-at = rw (s .is) at h
+
+    fits : All (Fit w) ws
+    fits =
+        all-both (To (r .at)) (λ (x : Write). x .word < w) (Fit w)
+        (λ x t l. record { on = subst (OnGrid w) (sym t) (s .slot .on); within = l })
+        ws
+        to
+        within
+
+    here : edit (r .at) (f (r .at)) ws ≡ e
+    here = edit-to (r .at) (f (r .at)) ws to ∙ is
+
+    written : entryAt (write d ws) w (r .at) ≡ e
+    written = at-write ws d w (r .at) fits (s .slot .on) ∙ here
+
+    away : (p : ℕ) → (r .at ≡ p → ⊥) → edit p (f p) ws ≡ f p
+    away p n = edit-away p (r .at) (f p) ws to n
+
+    -- of the key k there is no other entry
+    unique : (x : Row) → Stand d x → Only (holds k) (r .at) x → (r .at ≡ x .at → ⊥) → holds k (f (x .at)) ≡ false
+    unique x t o q = never (holds k (f (x .at))) (λ z. q (sym (o (rw (t .is) z))))
+
+    -- it goes; a key that the entry now has, and none had, comes from it
+    key-gone : holds k e ≡ false → All (After d (write d ws) k nothing) (rows d)
+    key-gone g =
+        after-writes d st ws fits k nothing (Only (holds k) (r .at)) only (λ x t o. go x t o (ℕ-discrete (r .at) (x .at)))
+      where
+        go : (x : Row) → Stand d x → Only (holds k) (r .at) x → Dec (r .at ≡ x .at)
+            → holds k (edit (x .at) (f (x .at)) ws) ≡ false
+        go x t o (yes q) = rw (← q, here) g
+        go x t o (no q) = rw (away (x .at) q) (unique x t o q)
+
+    key-made : (l : Key) → holds l e ≡ true → All (Fails (holds l)) (rows d) → All (After d (write d ws) l (holds k)) (rows d)
+    key-made l g free =
+        after-writes d st ws fits l (holds k) Known
+        (all-both (Only (holds k) (r .at)) (Fails (holds l)) Known (λ x a b. (a, b)) (rows d) only free)
+        (λ x t o. go x t (o .0) (o .1) (ℕ-discrete (r .at) (x .at)))
+      where
+        Known : Row → Type 0
+        Known x = Only (holds k) (r .at) x × Fails (holds l) x
+
+        go : (x : Row) → Stand d x → Only (holds k) (r .at) x → Fails (holds l) x → Dec (r .at ≡ x .at)
+            → holds l (edit (x .at) (f (x .at)) ws) ≡ holds k (f (x .at))
+        go x t o b (yes q) = rw (← q, here, g, key-at)
+        go x t o b (no q) = rw (away (x .at) q, unique x t o q) (rw (t .is) at b)
+
+    one-good : (C : Key → Type 0) → C k → Touch C 0 (f (r .at)) e → blocks e ≡ blocks (f (r .at))
+        → ((l : Key) → Source C d (write d ws) l) → Good d C ws
+    one-good C c t b source = good d st C ws fits owns (λ p. 0) (λ s. refl) (λ p. touched p (ℕ-discrete (r .at) p)) source
+      where
+        owns : All (Owns d C) ws
+        owns = all-map (To (r .at)) (Owns d C) (λ x t. subst (Owned d C) (sym t) (mine k c key-at)) ws to
+
+        touched : (p : ℕ) → Dec (r .at ≡ p)
+            → Touch C 0 (f p) (edit p (f p) ws) × (blocks (edit p (f p) ws) + 0 ≡ blocks (f p) + 0)
+        touched p (yes q) = rw (← q, here) (t, ap (λ (x : ℕ). x + 0) b)
+        touched p (no q) = rw (away p q) (keep refl refl, refl)
+
+  -- delete and abandon
+  pub clearing : (r : Row) → Stand d r → (k : Key) → holds k (r .entry) ≡ true → All (Only (holds k) (r .at)) (rows d)
+      → Gone d k (emptying r)
+  unfolding emptying
+  clearing r s k h only =
+      let g = key-gone r s k h only ws to within e refl (empty-holds k e (x .kind)) in
+      record {
+        good =
+            one-good r s k h only ws to within e refl (One k) refl
+            (gone k refl (key-at r s k h only ws to within e refl) (x .kind) refl)
+            (x .blocks)
+            (gone-source d (write d ws) k g);
+        gone = g;
+      }
+    where
+      ws : List Write
+      ws = put (r .at) statusWord 512 ∷ []
+
+      to : All (To (r .at)) ws
+      to = (refl, tt)
+
+      within : All (λ (x : Write). x .word < w) ws
+      within = (omega arith, tt)
+
+      e : Entry
+      e = set (f (r .at)) 0 512
+
+      x : Cleared (f (r .at)) e
+      x = cleared (f (r .at)) (slot-seven d (r .at) (s .slot))
+
+  -- rename
+  pub giving : (r : Row) → Stand d r → (a b c a′ b′ c′ : ℕ) → holds (file a b c) (r .entry) ≡ true
+      → All (Only (holds (file a b c)) (r .at)) (rows d) → All (Fails (holds (file a′ b′ c′))) (rows d)
+      → (file a b c ≡ file a′ b′ c′ → ⊥) → longName a′ b′ c′ ≡ false
+      → Made d r (file a b c) (file a′ b′ c′) (blocks (r .entry)) (renaming r a′ b′ c′)
+  unfolding renaming
+  giving r s a b c a′ b′ c′ h only free ne fine =
+      let g = key-gone r s k h only ws to within e refl (other-key k l e ne new) in
+      let m = key-made r s k h only ws to within e refl l new free in
+      let i = written r s k h only ws to within e refl in
+      record {
+        good =
+            one-good r s k h only ws to within e refl (Two k l) (inl refl)
+            (made k l (inl refl) (key-at r s k h only ws to within e refl) (inr refl) new (x .kept) (file-short a′ b′ c′ e x fine)
+            refl)
+            (y .blocks)
+            (made-source d (write d ws) k l g m);
+        gone = g;
+        made = m;
+        length = ap blocks i ∙ y .blocks ∙ ap blocks (sym (s .is));
+        date = ap dateOf i ∙ y .date ∙ ap dateOf (sym (s .is));
+      }
+    where
+      k : Key
+      k = file a b c
+
+      l : Key
+      l = file a′ b′ c′
+
+      ws : List Write
+      ws = put (r .at) nameWord a′ ∷ put (r .at) name2Word b′ ∷ put (r .at) extensionWord c′ ∷ []
+
+      to : All (To (r .at)) ws
+      to = (refl, (refl, (refl, tt)))
+
+      within : All (λ (x : Write). x .word < w) ws
+      within = (omega arith, (omega arith, (omega arith, tt)))
+
+      e : Entry
+      e = set (set (set (f (r .at)) 1 a′) 2 b′) 3 c′
+
+      y : Renamed a′ b′ c′ (f (r .at)) e
+      y = renamed (f (r .at)) a′ b′ c′ (slot-seven d (r .at) (s .slot))
+
+      x : IsFile a′ b′ c′ e
+      x = y .file (is-file a b c (f (r .at)) (rw (s .is) at h) .kept)
+
+      new : holds l e ≡ true
+      new = file-holds a′ b′ c′ e x

@@ -1,0 +1,83 @@
+-- Each request of demand 3's batch, by its plan: it is the plan carried out, its writes are good for the keys that it names, so
+-- it leaves a sound directory sound, and a key that it does not name is found as before.
+use Prim.Native.Nat.{ℕ}
+use mathlib.Core.Path.{_≡_, ap}
+use mathlib.Core.List.{List}
+use Rattle.meaning.specs.declared.Op.{Op}
+use Rattle.meaning.specs.declared.Op.the-variants.{Lookup, Enter, Close, Abandon, Delete, Rename}
+use Rattle.meaning.specs.declared.Request.{Request}
+use Rattle.meaning.specs.Words.{rows}
+use Rattle.meaning.specs.Sound.{fault}
+use Rattle.meaning.specs.Answers.{Outcome, find, write}
+use Rattle.meaning.specs.Requests.{finalLength}
+use Rattle.meaning.specs.Batch.{serveBy, serve}
+use Rattle.laws.specs.Order.{InBatch, Key, openFor, NamesBy, Names}
+use Rattle.laws.proofs.Keys.{holds}
+use Rattle.laws.proofs.Soundness.{Sound, sound, faultless}
+use Rattle.laws.proofs.Rows.{standing}
+use Rattle.laws.proofs.Keeps.{stays-sound, found-other}
+use Rattle.laws.proofs.Good.{Good, nothing-good}
+use Rattle.laws.proofs.Plans.{Plan, carried, refused, deletePlan, abandonPlan, renamePlan, closePlan}
+use Rattle.laws.proofs.Plans.{delete-is, abandon-is, rename-is, close-is}
+use Rattle.laws.proofs.Deeds.{delete-good, abandon-good, rename-good, close-good}
+
+-- a lookup and an enter are not of the batch
+abbrev pub planBy : Op → List ℕ → Request → Plan
+planBy Lookup d q = refused 0
+planBy Enter d q = refused 0
+planBy Close d q = closePlan d (q .job) (q .channel) (finalLength (q .«final_length»))
+planBy Abandon d q = abandonPlan d (q .job) (q .channel)
+planBy Delete d q = deletePlan d (q .name .first) (q .name .second) (q .name .extension)
+planBy Rename d q =
+    renamePlan d (q .name .first) (q .name .second) (q .name .extension) (q .«new_name» .first) (q .«new_name» .second)
+    (q .«new_name» .extension)
+
+unfoldable pub plan : List ℕ → Request → Plan
+plan d q = planBy (q .op) d q
+
+served-by : (op : Op) (v : ℕ) (d : List ℕ) (q : Request) → InBatch op → fault v d ≡ 0
+    → serveBy op v d q ≡ carried d (planBy op d q)
+served-by Lookup v d q b h = absurd b
+served-by Enter v d q b h = absurd b
+served-by Close v d q b h = close-is v d h (q .job) (q .channel) (q .«final_length»)
+served-by Abandon v d q b h = abandon-is v d h (q .job) (q .channel)
+served-by Delete v d q b h = delete-is v d h (q .name .first) (q .name .second) (q .name .extension)
+served-by Rename v d q b h =
+    rename-is v d h (q .name .first) (q .name .second) (q .name .extension) (q .«new_name» .first) (q .«new_name» .second)
+    (q .«new_name» .extension)
+
+pub served : (v : ℕ) (d : List ℕ) (q : Request) → InBatch (q .op) → fault v d ≡ 0 → serve v d q ≡ carried d (plan d q)
+unfolding serve plan
+served v d q b h = served-by (q .op) v d q b h
+
+module _ (v : ℕ) (d : List ℕ) (s : Sound v d) where
+  good-by : (op : Op) (q : Request) → Good d (NamesBy op d q) (planBy op d q .writes)
+  unfolding openFor
+  good-by Lookup q = nothing-good d (standing v d s) (NamesBy Lookup d q)
+  good-by Enter q = nothing-good d (standing v d s) (NamesBy Enter d q)
+  good-by Close q = close-good v d s (q .job) (q .channel) (finalLength (q .«final_length»))
+  good-by Abandon q = abandon-good v d s (q .job) (q .channel)
+  good-by Delete q = delete-good v d s (q .name .first) (q .name .second) (q .name .extension)
+  good-by Rename q =
+      rename-good v d s (q .name .first) (q .name .second) (q .name .extension) (q .«new_name» .first) (q .«new_name» .second)
+      (q .«new_name» .extension)
+
+  pub plan-good : (q : Request) → Good d (Names d q) (plan d q .writes)
+  unfolding Names plan
+  plan-good q = good-by (q .op) q
+
+  pub plan-kept : (q : Request) → Sound v (write d (plan d q .writes))
+  plan-kept q = let g = plan-good q in stays-sound v (Names d q) (g .fall) d (write d (plan d q .writes)) s (g .move) (g .sources)
+
+  pub plan-found : (q : Request) (k : Key) → (Names d q k → ⊥)
+      → find (holds k) (rows (write d (plan d q .writes))) ≡ find (holds k) (rows d)
+  plan-found q k out =
+      let g = plan-good q in
+      found-other v (Names d q) (g .fall) d (write d (plan d q .writes)) s (g .move) k out
+
+pub serve-words : (v : ℕ) (d : List ℕ) (q : Request) → InBatch (q .op) → fault v d ≡ 0
+    → serve v d q .words ≡ write d (plan d q .writes)
+serve-words v d q b h = ap (λ (o : Outcome). o .words) (served v d q b h)
+
+pub serve-kept : (v : ℕ) (d : List ℕ) (q : Request) → InBatch (q .op) → fault v d ≡ 0 → fault v (serve v d q .words) ≡ 0
+serve-kept v d q b h = rw (serve-words v d q b h) (faultless v _ (plan-kept v d (sound v d h) q))
