@@ -118,10 +118,11 @@ later m n l rs a = all-map (Ends m) (Ends n) (λ r h. omega arith) rs a
 ends-in : (w s k a b : ℕ) (es : List Entry) → All (Ends (b + total es)) (rowsIn w s k a b es)
 unfolding rowsIn total Ends
 ends-in w s k a b [] = tt
-ends-in w s k a b (e ∷ es) =
-    (omega arith,
-    later (b + blocks e + total es) (b + (blocks e + total es)) (omega arith) (rowsIn w s (k + 1) (a + w) (b + blocks e) es)
-    (ends-in w s (k + 1) (a + w) (b + blocks e) es))
+ends-in w s k a b (e ∷ es) = (
+  omega arith,
+  later (b + blocks e + total es) (b + (blocks e + total es)) (omega arith) (rowsIn w s (k + 1) (a + w) (b + blocks e) es)
+      (ends-in w s (k + 1) (a + w) (b + blocks e) es),
+)
 
 filled-step : (v : ℕ) (d : List ℕ) (b s : ℕ) (ss : List ℕ) → filled v d b (s ∷ ss) ≡ true
     → (firstOf (segment d s) ≡ b) × (filled v d (b + total (entries d s)) ss ≡ true)

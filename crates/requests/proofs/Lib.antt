@@ -1,0 +1,4 @@
+pub mod Doors
+pub mod Finals
+pub mod Closes
+pub mod Determined
