@@ -152,7 +152,8 @@ fullSegment =
 
 -- the slips: a sum of V + 65,536; a tentative entry before a file, and before the marker; zero lengths, legal for every kind; H read in
 -- another segment than 1; a looped chain; one channel word or one name twice; refusals in number order, where two would apply; a close
--- over a file of the same name, which keeps its own blocks; and a split that parts no tentative entry from its area
+-- over a file of the same name, which keeps its own blocks; requests that touch no file that they don't name, though it shares a name
+-- word or stands next; and a split that parts no tentative entry from its area
 unfoldable pub slips : List Case
 slips =
     faulty 100 (oneSegment (file 1600 65535 ∷ file 3200 93 ∷ [])) 5
@@ -183,6 +184,20 @@ slips =
     ∷ gives (looking "A        ") 0 58 7 0
     ∷ [])
     (50 ∷ 7 ∷ 35 ∷ [])
+    ∷ run 100 (blank 1)
+    (gives (start 0) 0 8 92 0
+    ∷ gives (entering "A     X  " (pos 10) 0 1 0) 0 8 10 0
+    ∷ gives (closing 0 1 (pos 10)) 0 8 10 0
+    ∷ gives (entering "ABCE     " (pos 10) 0 2 0) 0 18 10 0
+    ∷ gives (closing 0 2 (pos 10)) 0 18 10 0
+    ∷ gives (entering "ABCD     " (pos 10) 0 3 0) 0 28 10 0
+    ∷ gives (closing 0 3 (pos 10)) 0 28 10 0
+    ∷ gives (looking "ABCE     ") 0 18 10 0
+    ∷ gives (renaming "ABCD     " "B     X  ") 0 28 10 0
+    ∷ gives (deleting "A     X  ") 0 8 10 0
+    ∷ gives (looking "ABCE     ") 0 18 10 0
+    ∷ [])
+    (10 ∷ 10 ∷ 10 ∷ 62 ∷ [])
     ∷ run 90 fullSegment
     (gives (entering "DAY   CHG" (pos 3) 0 4 3556) 0 45 3 3556 ∷ [])
     (replicate 34 1 ++ 1 ∷ 0 ∷ 3 ∷ 7 ∷ replicate 35 1)
