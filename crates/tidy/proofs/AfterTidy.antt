@@ -1,0 +1,78 @@
+-- The tidied directory, for callers: what rests on the headers is the same, and each sum of lengths too. And the tidy may be done
+-- where rule 5 holds: each segment in the chain ends by V, so its sum is no more. Assumes nothing.
+use Prim.Native.Nat.{ℕ, _+_, _≤_}
+use native.Mathlib.Decide.{ℕ-discrete}
+use native.Mathlib.Omega.{arith}
+use mathlib.Core.Path.{_≡_, sym}
+use mathlib.Core.Bool.{true, false}
+use mathlib.Core.List.{List, [], _∷_}
+use lib.Dec.{eqb}
+use borrow.Author.Tests.{eqb-true, ne-eqb, not-false}
+use Rattle.names.proofs.Bools.{both}
+use Rattle.meaning.specs.Words.{segments, firstData, segment, extraBytesOf, firstOf, highest, slotWords, capacity}
+use Rattle.meaning.specs.Words.{entries, total, chain}
+use Rattle.meaning.specs.Sound.{times, filled, bad5}
+use Rattle.walks.proofs.Tidied.{tidy-total, entries-long}
+use Rattle.directory.specs.Chained.{Chained}
+use Rattle.tidy.specs.Tidied.{Small, TidyKept}
+use Rattle.tidy.proofs.Headers.{Framed, word-kept, highest-kept, slots-kept, used-once}
+
+module _ (d t : List ℕ) (k : TidyKept d t) where
+  framed : Framed d t
+  framed = record { long = k .long; headers = k .headers }
+
+  pub highest-same : highest t ≡ highest d
+  highest-same = highest-kept d t framed
+
+  pub extra-same : extraBytesOf t ≡ extraBytesOf d
+  extra-same = word-kept d t framed 3 (omega arith)
+
+  pub slots-same : slotWords t ≡ slotWords d
+  slots-same = slots-kept d t framed
+
+  pub capacity-same : capacity t ≡ capacity d
+  unfolding capacity
+  capacity-same = rw slots-same
+
+  pub segments-same : segments t ≡ segments d
+  segments-same = rw (k .long)
+
+  pub first-same : (s : ℕ) → 1 ≤ s → firstOf (segment t s) ≡ firstOf (segment d s)
+  first-same s l = k .headers s 4 l (omega arith)
+
+  pub total-same : Chained d → (s : ℕ) → 1 ≤ s → s ≤ highest d → total (entries t s) ≡ total (entries d s)
+  total-same c s l h =
+      let w = c .whole in
+      rw (k .used s l h) (tidy-total (entries d s) (entries-long d s l (omega arith)))
+
+  pub small-same : Chained d → Small d → Small t
+  small-same c m s l h =
+      let e = highest-same in
+      rw (total-same c s l (omega arith)) (m s l (omega arith))
+
+filled-start : (v : ℕ) (d : List ℕ) (ss : List ℕ) (b : ℕ) → filled v d b ss ≡ true → b ≤ v
+unfolding filled
+filled-start v d [] b h = let e = eqb-true b v h in omega arith
+filled-start v d (s ∷ ss) b h =
+    let p = both (eqb (firstOf (segment d s)) b) (filled v d (b + total (entries d s)) ss) h in
+    let i = filled-start v d ss (b + total (entries d s)) (p .1) in
+    omega arith
+
+filled-sum : (v : ℕ) (d : List ℕ) (ss : List ℕ) (b x : ℕ) → filled v d b ss ≡ true → times x ss ≡ 1
+    → total (entries d x) ≤ v
+unfolding filled times
+filled-sum v d [] b x h f = absurd (omega arith)
+filled-sum v d (s ∷ ss) b x h f = go (ℕ-discrete s x) (filled-sum v d ss (b + total (entries d s)) x (p .1))
+  where
+    p : (eqb (firstOf (segment d s)) b ≡ true) × (filled v d (b + total (entries d s)) ss ≡ true)
+    p = both (eqb (firstOf (segment d s)) b) (filled v d (b + total (entries d s)) ss) h
+
+    go : Dec (s ≡ x) → (times x ss ≡ 1 → total (entries d x) ≤ v) → total (entries d x) ≤ v
+    go (yes e) i = rw (sym e) (let j = filled-start v d ss (b + total (entries d s)) (p .1) in omega arith)
+    go (no e) i = i (rw (ne-eqb s x e) at f)
+
+pub sums-small : (v : ℕ) (d : List ℕ) → Chained d → v ≤ 65535 → bad5 v d ≡ false → Small d
+unfolding bad5
+sums-small v d c l h s a b =
+    let f = filled-sum v d (chain d) (firstData d) s (not-false (filled v d (firstData d) (chain d)) h) (used-once d c s a b) in
+    omega arith

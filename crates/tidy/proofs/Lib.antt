@@ -1,0 +1,10 @@
+pub mod Writes
+pub mod Flat
+pub mod Runs
+pub mod Tidying
+pub mod Anew
+pub mod Replaced
+pub mod Headers
+pub mod InPlace
+pub mod Following
+pub mod AfterTidy
