@@ -2,3 +2,4 @@ pub mod Sound
 pub mod Refusals
 pub mod Order
 pub mod Kept
+pub mod Room

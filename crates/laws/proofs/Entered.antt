@@ -1,0 +1,344 @@
+-- The tentative entry in a sound directory. Where its segment has the slots, that segment is rendered again with the entry inserted; else it is
+-- split, and the two halves are the way from it to the next. Either way the directory is sound, and has one more among its living entries: the
+-- new one, where the area began.
+use Prim.Native.Nat.{ℕ, zero, suc, _+_, _*_, _-_, _≤_, _<_}
+use mathlib.Core.Path.{_≡_, refl, sym, ap, ap₂, _∙_}
+use mathlib.Core.Logic.{_≢_}
+use mathlib.Core.Bool.{Bool, true, false, cond}
+use mathlib.Core.List.{List, [], _∷_, _++_, append-nil}
+use mathlib.Core.Option.{none}
+use native.Mathlib.Nat.{le-div-iff-mul-le}
+use native.Mathlib.Omega.{arith}
+use lib.ListN.{length, getD, take, drop, set, length-set, length-append}
+use lib.Seq.{getD-set-same, getD-set-other, take-set-lt, drop-set-lt, getD-append-seam}
+use lib.Dec.{leb, ltb}
+use borrow.Author.Tests.{leb-true, ltb-true}
+use Rattle.names.proofs.Bools.{both}
+use Rattle.meaning.specs.declared.Kind.the-variants.{Empty}
+use Rattle.meaning.specs.Words.{segments, segment, totalOf, linkOf, extraBytesOf, firstOf, highest, slotWords, slotCount, capacity, Entry}
+use Rattle.meaning.specs.Words.{kind, blocks, chunks, slots, upto, entries, total}
+use Rattle.meaning.specs.Requests.{render}
+use Rattle.meaning.specs.Enter.{withSegment, headerOf, Area, costAfter, hasRoom, inserted, kept, unsplit, split, entered}
+use Rattle.laws.specs.Order.{Key}
+use Rattle.laws.specs.Sound.{Rule2}
+use Rattle.laws.proofs.Rule5.{rule1-holds, rule2-holds}
+use Rattle.laws.proofs.Keys.{holds}
+use Rattle.laws.proofs.Soundness.{Sound, total-append}
+use Rattle.laws.proofs.Move.{head-word}
+use Rattle.laws.proofs.Fine.{flag}
+use Rattle.laws.proofs.Rendered.{Body, Written, written, length-render, header-length, header-word, with-length, with-own, with-other}
+use Rattle.laws.proofs.Living.{Live, living, livingOf, seek, counted, Gained, gained-within, gained-few}
+use Rattle.laws.proofs.Way.{shapeOf, entriesIn, spread, Stop, Like}
+use Rattle.laws.proofs.Anew.{stop-at, Change, Anew, anew}
+use Rattle.laws.proofs.Rewritten.{used-within, used-body, rewritten}
+use Rattle.laws.proofs.TidiedSound.{few-living}
+use Rattle.laws.proofs.Areas.{Stands, RoomIn, Chosen}
+use Rattle.laws.proofs.Inserted.{New, liveAt, Added, added-in}
+use Rattle.laws.proofs.Halves.{Parted, parted, Halves, halves}
+
+-- setting the word of H changes no other header word, and no slot
+top-head : (d : List ℕ) (s j x : ℕ) → j < 5 → j ≢ 2 → getD (segment (set d 2 x) s) j 0 ≡ getD (segment d s) j 0
+top-head d s j x h ne =
+    head-word (set d 2 x) s j h ∙ getD-set-other d 2 (512 * (s - 1) + j) x 0 (λ e. ne (omega arith)) ∙ sym (head-word d s j h)
+
+top-slots : (w : ℕ) (d : List ℕ) (s x : ℕ) → slots w (segment (set d 2 x) s) ≡ slots w (segment d s)
+unfolding slots segment
+top-slots w d s x = ap (chunks (slotCount w) w) (go (s - 1))
+  where
+    go : (t : ℕ) → drop 5 (take 512 (drop (512 * t) (set d 2 x))) ≡ drop 5 (take 512 (drop (512 * t) d))
+    go zero = rw (take-set-lt 512 d 2 x (omega arith)) (drop-set-lt 5 (take 512 d) 2 x (omega arith))
+    go (suc t) = rw (drop-set-lt (512 * suc t) d 2 x (omega arith))
+
+cost-most : (p : Bool) → costAfter p ≤ 2
+unfolding costAfter
+cost-most true = omega arith
+cost-most false = omega arith
+
+pub record Entered (v : ℕ) (t D : List ℕ) (x : Live) : Type 0 where
+  pub sound : Sound v D
+  pub gained : Gained x (livingOf t) (livingOf D)
+
+module _ (v : ℕ) (t : List ℕ) (st : Sound v t) (a : Area) (n : ℕ) (new : Entry) (ch : Chosen t n a) (nw : New (slotWords t) n new)
+    (free : (k : Key) → holds k new ≡ true → seek (holds k) (livingOf t) ≡ none) where
+  abbrev w : ℕ
+  w = slotWords t
+
+  abbrev s : ℕ
+  s = a .seg
+
+  abbrev es : List Entry
+  es = entries t (a .seg)
+
+  abbrev b : ℕ
+  b = firstOf (segment t (a .seg))
+
+  x : Stands (RoomIn t (a .seg)) 0 (firstOf (segment t (a .seg))) false (entries t (a .seg)) a
+  x = ch .stood .stands
+
+  low : 1 ≤ s
+  low = ch .stood .used .0
+
+  high : s ≤ highest t
+  high = ch .stood .used .1
+
+  inside : 512 * s ≤ length t
+  inside = used-within v t st s high
+
+  bd : Body w es
+  bd = used-body v t st s low high
+
+  -- the entries with the new one
+  abbrev out : List Entry
+  out = inserted (slotWords t) new n (a .cost) (a .before) (entries t (a .seg))
+
+  ad : Added w new (total (x .before)) (a .cost) es out
+  ad =
+      added-in w n (omega arith) new nw es (x .before) (x .here) (x .after) (a .before) (a .cost) (x .are)
+      (omega (arith, x .place))
+      (x .cost)
+      (x .empty)
+      (omega (arith, ch .enough, x .size))
+      (bd .fine)
+      (bd .wide)
+
+  -- one more among the living of the segment is one more among all; and no other has its key
+  finish : (D : List ℕ) (before after : List Live) → livingOf t ≡ before ++ (living b es ++ after)
+      → livingOf D ≡ before ++ (living b out ++ after)
+      → (((k : Key) → counted (holds k) (livingOf D) ≤ 1) → Sound v D)
+      → Entered v t D (liveAt (a .first) new)
+  finish D before after was is sound =
+      record { sound = sound (λ k. gained-few g (holds k) (few-living v t st k) (free k)); gained = g }
+    where
+      g : Gained (liveAt (a .first) new) (livingOf t) (livingOf D)
+      g = rw (was, is, x .first) (gained-within before after (ad .gained b))
+
+  -- slots
+  h2 : Rule2 t
+  h2 = rule2-holds t (st .header)
+
+  many : 22 ≤ slotCount w
+  many = le-div-iff-mul-le {k = w} (omega arith) .1 (omega (arith, h2 .few))
+
+  -- without a split
+  whole-entered : length es + a .cost ≤ capacity t → Entered v t (unsplit t new n a) (liveAt (a .first) new)
+  unfolding unsplit capacity
+  whole-entered fits =
+      let r =
+      rewritten v t st s low high out
+      (record { fine = ad .fine; wide = ad .wide; room = omega (arith, ad .long, many) })
+      (ad .sum) in
+      finish (withSegment t s (render (headerOf t s) out)) (r .before) (r .after) (r .living-was) (r .living-is) (r .sound)
+
+  -- with a split
+  module _ (spare : highest t < segments t) where
+    abbrev h : ℕ
+    h = kept es
+
+    abbrev next : ℕ
+    next = highest t + 1
+
+    abbrev header : List ℕ
+    header = headerOf t (a .seg)
+
+    abbrev lower : List Entry
+    lower = cond (ltb (a .before) (kept es)) (inserted w new n (a .cost) (a .before) (take (kept es) es)) (take (kept es) es)
+
+    abbrev upper : List Entry
+    upper = cond (ltb (a .before) (kept es)) (drop (kept es) es) (inserted w new n (a .cost) (a .before - kept es) (drop (kept es) es))
+
+    abbrev newHeader : List ℕ
+    newHeader = totalOf t ∷ linkOf header ∷ 0 ∷ extraBytesOf t ∷ (firstOf header + total (take (kept es) es)) ∷ []
+
+    abbrev g1 : List ℕ
+    g1 = render (set header 1 next) lower
+
+    abbrev g2 : List ℕ
+    g2 = render newHeader upper
+
+    abbrev t1 : List ℕ
+    t1 = withSegment t s g1
+
+    abbrev t2 : List ℕ
+    t2 = withSegment t1 next g2
+
+    abbrev D : List ℕ
+    D = set t2 2 next
+
+    area-place : (a .before < length es) × (kind (getD es (a .before) []) ≡ Empty)
+    area-place = go (x .are) (omega (arith, x .place))
+      where
+        go : es ≡ x .before ++ x .here ∷ x .after → a .before ≡ length (x .before)
+            → (a .before < length es) × (kind (getD es (a .before) []) ≡ Empty)
+        go e i =
+            let l = length-append (x .before) (x .here ∷ x .after) in
+            let g = getD-append-seam (x .before) (x .here) (x .after) [] in
+            (omega (arith, ap length e), ap₂ (λ (l : List Entry) (j : ℕ). kind (getD l j [])) e i ∙ (rw g) ∙ x .empty)
+
+    hv : Halves w h (a .cost) es lower upper out
+    hv = halves w new n (total (x .before)) (a .cost) (a .before) es (area-place .0) (area-place .1) (bd .fine) ad
+
+    pa : Parted es h
+    pa = parted es (bd .fine)
+
+    cost2 : a .cost ≤ 2
+    cost2 = rw (x .cost) (cost-most (flag false (x .before)))
+
+    head-long : length header ≡ 5
+    head-long = header-length t s low inside
+
+    old-head : length (set header 1 next) ≡ 5
+    old-head = length-set header 1 next ∙ head-long
+
+    wr1 : Written w (set header 1 next) lower g1
+    wr1 =
+        written w (set header 1 next) lower (omega arith) old-head
+        (record {
+          fine = hv .fine-lower;
+          wide = hv .wide-lower;
+          room = omega (arith, hv .long-lower, pa .high, bd .room, cost2, many);
+        })
+
+    wr2 : Written w newHeader upper g2
+    wr2 =
+        written w newHeader upper (omega arith) refl
+        (record {
+          fine = hv .fine-upper;
+          wide = hv .wide-upper;
+          room = omega (arith, hv .long-upper, pa .low, bd .room, cost2, many);
+        })
+
+    -- the segments of the directory afterwards
+    long1 : length t1 ≡ length t
+    long1 = with-length t s g1 low inside (length-render (set header 1 next) lower)
+
+    inside1 : 512 * next ≤ length t1
+    inside1 = omega (arith, long1, rule1-holds v t (st .size) .whole)
+
+    long2 : length t2 ≡ length t
+    long2 = with-length t1 next g2 (omega arith) inside1 (length-render newHeader upper) ∙ long1
+
+    at-own : segment t2 s ≡ g1
+    at-own =
+        with-other t1 next g2 (omega arith) inside1 (length-render newHeader upper) s low (λ e. omega (arith, high))
+        ∙ with-own t s g1 low inside (length-render (set header 1 next) lower)
+
+    at-next : segment t2 next ≡ g2
+    at-next = with-own t1 next g2 (omega arith) inside1 (length-render newHeader upper)
+
+    at-other : (z : ℕ) → 1 ≤ z → z ≤ highest t → z ≢ s → segment t2 z ≡ segment t z
+    at-other z l i ne =
+        with-other t1 next g2 (omega arith) inside1 (length-render newHeader upper) z l (λ e. omega arith)
+        ∙ with-other t s g1 low inside (length-render (set header 1 next) lower) z l ne
+
+    -- a segment of D by the segment of t2
+    word : (z j : ℕ) (g : List ℕ) → segment t2 z ≡ g → j < 5 → j ≢ 2 → getD (segment D z) j 0 ≡ getD g j 0
+    word z j g e l ne = top-head t2 z j next l ne ∙ ap (λ (f : List ℕ). getD f j 0) e
+
+    slots-at : (z : ℕ) (g : List ℕ) → segment t2 z ≡ g → slots w (segment D z) ≡ slots w g
+    slots-at z g e = top-slots w t2 z next ∙ ap (slots w) e
+
+    own-word : (j : ℕ) → j < 5 → j ≢ 2 → j ≢ 1 → getD (segment D s) j 0 ≡ getD (segment t s) j 0
+    own-word j l ne ne′ =
+        word s j g1 at-own l ne ∙ wr1 .heads j l ∙ getD-set-other header 1 j next 0 ne′ ∙ header-word t s j l
+
+    next-word : (j : ℕ) → j < 5 → j ≢ 2 → getD (segment D next) j 0 ≡ getD newHeader j 0
+    next-word j l ne = word next j g2 at-next l ne ∙ wr2 .heads j l
+
+    own-entries : entriesIn w D s ≡ lower
+    own-entries = ap upto (slots-at s g1 at-own) ∙ wr1 .entries
+
+    next-entries : entriesIn w D next ≡ upper
+    next-entries = ap upto (slots-at next g2 at-next) ∙ wr2 .entries
+
+    stop : Stop (shapeOf t) t s b
+    stop = stop-at v t st s low high
+
+    change : Change t D s next (s ∷ next ∷ [])
+    change =
+        record {
+          low = low;
+          high = high;
+          size = length-set t2 2 next ∙ long2;
+          more = omega arith;
+          fits = omega arith;
+          top = getD-set-same t2 2 next 0 (omega (arith, long2, inside, low));
+          many = omega arith;
+          others = like;
+          way = (
+            refl,
+            record {
+              low = low;
+              high = omega (arith, high);
+              total = own-word 0 (omega arith) (λ e. omega arith) (λ e. omega arith) ∙ stop .total;
+              extra = own-word 3 (omega arith) (λ e. omega arith) (λ e. omega arith) ∙ stop .extra;
+              first = own-word 4 (omega arith) (λ e. omega arith) (λ e. omega arith);
+              readable = rw (slots-at s g1 at-own) (wr1 .readable);
+            },
+            (
+              own-link,
+              record {
+                low = omega arith;
+                high = omega arith;
+                total = next-word 0 (omega arith) (λ e. omega arith);
+                extra = next-word 3 (omega arith) (λ e. omega arith);
+                first = next-word 4 (omega arith) (λ e. omega arith) ∙ next-first;
+                readable = rw (slots-at next g2 at-next) (wr2 .readable);
+              },
+              (next-word 1 (omega arith) (λ e. omega arith) ∙ header-word t s 1 (omega arith), blocks-same),
+            ),
+          );
+        }
+      where
+        like : (z : ℕ) → 1 ≤ z → z ≤ highest t → z ≢ s → Like w t D z
+        like z l i ne =
+            let e = at-other z l i ne in
+            record {
+              total = word z 0 (segment t z) e (omega arith) (λ q. omega arith);
+              link = word z 1 (segment t z) e (omega arith) (λ q. omega arith);
+              extra = word z 3 (segment t z) e (omega arith) (λ q. omega arith);
+              first = word z 4 (segment t z) e (omega arith) (λ q. omega arith);
+              slots = slots-at z (segment t z) e;
+            }
+
+        own-link : linkOf (segment D s) ≡ next
+        own-link =
+            word s 1 g1 at-own (omega arith) (λ e. omega arith)
+            ∙ wr1 .heads 1 (omega arith)
+            ∙ getD-set-same header 1 next 0 (omega (arith, head-long))
+
+        next-first : firstOf header + total (take h es) ≡ b + total (entriesIn w D s)
+        next-first = rw (own-entries, hv .sum-lower, header-word t s 4 (omega arith))
+
+        blocks-same : b + total (entriesIn w D s) + total (entriesIn w D next) ≡ b + total es
+        blocks-same =
+            let i = total-append lower upper in
+            let j = ap total (hv .joined) in
+            let k = ad .sum in
+            rw (own-entries, next-entries) (omega arith)
+
+    an : Anew v t D s (s ∷ next ∷ [])
+    an = anew v t D s next (s ∷ next ∷ []) st change
+
+    split-entered : Entered v t (split t new n a) (liveAt (a .first) new)
+    unfolding split
+    split-entered = finish D (an .before) (an .after) (an .living-was) (an .living-is ∙ (rw all-of)) (an .sound)
+      where
+        all-of : spread w D (s ∷ next ∷ []) ≡ out
+        all-of = rw (own-entries, next-entries, append-nil upper) (hv .joined)
+
+  -- in either case
+  pub is-entered : Entered v t (entered t new n a) (liveAt (a .first) new)
+  unfolding entered hasRoom
+  is-entered = go (leb (length es + a .cost) (capacity t)) refl
+    where
+      room : hasRoom t es (a .cost) ≡ true
+      room = rw (x .cost) (both (leb 1 (blocks (x .here))) (hasRoom t es (costAfter (flag false (x .before)))) (sym (x .choice) ∙ ch .eligible) .1)
+
+      go : (z : Bool) → leb (length es + a .cost) (capacity t) ≡ z
+          → Entered v t (cond z (unsplit t new n a) (split t new n a)) (liveAt (a .first) new)
+      go true e = whole-entered (leb-true (length es + a .cost) (capacity t) e)
+      go false e =
+          split-entered (ltb-true (highest t) (segments t) (left e))
+        where
+          left : leb (length es + a .cost) (capacity t) ≡ false → ltb (highest t) (segments t) ≡ true
+          left q = rw q at room
