@@ -58,21 +58,26 @@ filled-start v d (s ∷ ss) b h =
     let i = filled-start v d ss (b + total (entries d s)) (p .1) in
     omega arith
 
-filled-sum : (v : ℕ) (d : List ℕ) (ss : List ℕ) (b x : ℕ) → filled v d b ss ≡ true → times x ss ≡ 1
-    → total (entries d x) ≤ v
+filled-end : (v : ℕ) (d : List ℕ) (ss : List ℕ) (b x : ℕ) → filled v d b ss ≡ true → times x ss ≡ 1
+    → firstOf (segment d x) + total (entries d x) ≤ v
 unfolding filled times
-filled-sum v d [] b x h f = absurd (omega arith)
-filled-sum v d (s ∷ ss) b x h f = go (ℕ-discrete s x) (filled-sum v d ss (b + total (entries d s)) x (p .1))
+filled-end v d [] b x h f = absurd (omega arith)
+filled-end v d (s ∷ ss) b x h f = go (ℕ-discrete s x) (filled-end v d ss (b + total (entries d s)) x (p .1))
   where
     p : (eqb (firstOf (segment d s)) b ≡ true) × (filled v d (b + total (entries d s)) ss ≡ true)
     p = both (eqb (firstOf (segment d s)) b) (filled v d (b + total (entries d s)) ss) h
 
-    go : Dec (s ≡ x) → (times x ss ≡ 1 → total (entries d x) ≤ v) → total (entries d x) ≤ v
-    go (yes e) i = rw (sym e) (let j = filled-start v d ss (b + total (entries d s)) (p .1) in omega arith)
+    go : Dec (s ≡ x) → (times x ss ≡ 1 → firstOf (segment d x) + total (entries d x) ≤ v)
+        → firstOf (segment d x) + total (entries d x) ≤ v
+    go (yes e) i = rw (sym e) (let j = filled-start v d ss (b + total (entries d s)) (p .1) in omega (arith, eqb-true (firstOf (segment d s)) b (p .0)))
     go (no e) i = i (rw (ne-eqb s x e) at f)
 
-pub sums-small : (v : ℕ) (d : List ℕ) → Chained d → v ≤ 65535 → bad5 v d ≡ false → Small d
+-- each segment in use ends by V
+pub ends-by : (v : ℕ) (d : List ℕ) → Chained d → bad5 v d ≡ false → (s : ℕ) → 1 ≤ s → s ≤ highest d
+    → firstOf (segment d s) + total (entries d s) ≤ v
 unfolding bad5
-sums-small v d c l h s a b =
-    let f = filled-sum v d (chain d) (firstData d) s (not-false (filled v d (firstData d) (chain d)) h) (used-once d c s a b) in
-    omega arith
+ends-by v d c h s a b =
+    filled-end v d (chain d) (firstData d) s (not-false (filled v d (firstData d) (chain d)) h) (used-once d c s a b)
+
+pub sums-small : (v : ℕ) (d : List ℕ) → Chained d → v ≤ 65535 → bad5 v d ≡ false → Small d
+sums-small v d c l h s a b = let f = ends-by v d c h s a b in omega arith

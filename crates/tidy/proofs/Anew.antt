@@ -15,9 +15,9 @@ use Rattle.meaning.specs.Words.{Entry, slotCount, slots, upto}
 use Rattle.meaning.specs.Requests.{flat, render}
 use Rattle.meaning.specs.Enter.{tidy}
 use Rattle.walks.proofs.Tidied.{Kept, tidy-kept}
-use Rattle.tidy.specs.Written.{Written}
+use Rattle.copying.specs.Written.{Written}
 use Rattle.tidy.specs.Tidied.{TidyWritten, tidiedWords}
-use Rattle.tidy.proofs.Writes.{copied-whole}
+use Rattle.copying.proofs.Writes.{copied-whole}
 use Rattle.tidy.proofs.Flat.{entries-proper, entries-count, flat-split, render-length, render-head, render-entries}
 use Rattle.tidy.proofs.Tidying.{tidy-proper, proper-long}
 

@@ -1,4 +1,3 @@
-pub mod Writes
 pub mod Flat
 pub mod Runs
 pub mod Tidying

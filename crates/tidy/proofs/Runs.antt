@@ -16,11 +16,11 @@ use Rattle.meaning.specs.Requests.{flat}
 use Rattle.meaning.specs.Enter.{isArea}
 use Rattle.walks.specs.Runs.{Run, calm, absorb, flushed, tidyFrom}
 use Rattle.segment.proofs.Slots.{word, word0}
-use Rattle.tidy.specs.Written.{Written}
+use Rattle.copying.specs.Written.{Written}
 use Rattle.tidy.specs.OpenRun.{runOf, sumOf, absorbAt, runAfter, passed, leftOf, outOf, Behind, Placed, Finished}
 use Rattle.tidy.specs.declared.tidy.RunAt.{RunAt}
 use Rattle.tidy.specs.declared.tidy.RunAt.the-variants.{Calm, Within}
-use Rattle.tidy.proofs.Writes.{none-written, one-written, both-written}
+use Rattle.copying.proofs.Writes.{none-written, one-written, both-written}
 use Rattle.tidy.proofs.Flat.{flat-split, flat-append}
 
 -- no run, or one whose zero sum is dropped, leaves nothing

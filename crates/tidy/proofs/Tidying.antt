@@ -20,12 +20,12 @@ use Rattle.meaning.specs.Enter.{isArea, joinTo, joined, dropZero, tidy}
 use Rattle.walks.specs.Runs.{calm, tidyFrom, Long}
 use Rattle.walks.proofs.Tidied.{tidy-from}
 use Rattle.segment.proofs.Slots.{word, word0, mul-less, chunks-step}
-use Rattle.tidy.specs.Written.{Written}
+use Rattle.copying.specs.Written.{Written}
 use Rattle.tidy.specs.OpenRun.{runOf, sumOf, passed, leftOf, outOf, Behind, Placed, Finished}
 use Rattle.tidy.specs.Tidied.{Tidyable, TidyWritten}
 use Rattle.tidy.specs.declared.tidy.RunAt.{RunAt}
 use Rattle.tidy.specs.declared.tidy.RunAt.the-variants.{Calm}
-use Rattle.tidy.proofs.Writes.{both-written}
+use Rattle.copying.proofs.Writes.{both-written}
 use Rattle.tidy.proofs.Flat.{Proper, entries-proper, flat-append, flat-length}
 use Rattle.tidy.proofs.Runs.{left-bound, tidy-step, nextOf, next-is, next-behind, next-sum}
 

@@ -9,7 +9,7 @@ use Rattle.meaning.specs.Words.{segment, highest, slots, upto, entries, total, 
 use Rattle.meaning.specs.Requests.{flat, render}
 use Rattle.meaning.specs.Enter.{tidy, tidied}
 use Rattle.directory.specs.Chained.{Chained}
-use Rattle.tidy.specs.Written.{Written}
+use Rattle.copying.specs.Written.{Written}
 
 -- the words g of a segment with its entries tidied, in slots of w words; where they do not become fewer, as they were
 unfoldable pub tidiedWords : ℕ → List ℕ → List ℕ

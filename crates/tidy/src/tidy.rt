@@ -1,14 +1,14 @@
 // Enter's first step: in each open segment a run of neighbouring empty entries becomes its first with the summed length, and a
 // zero sum is dropped unless a tentative entry stands before it. The entries are met once, from left to right, and written as
 // they come out; `place` is where the next one goes, never ahead of `word`, where the next one is read.
-use crate::copying;
+use copying::copy_words;
 use segment::kinds;
 ghost use mathlib.Core.Path.{_≡_};
 ghost use Prim.Native.Nat.{_+_, _≤_};
 ghost use lib.ListN.{length, take, drop, set};
 ghost use Rattle.meaning.specs.Words.{lengthWord};
 ghost use Rattle.directory.specs.Chained.{Chained};
-ghost use Rattle.tidy.specs.Written.{Written};
+ghost use Rattle.copying.specs.Written.{Written};
 ghost use Rattle.tidy.specs.OpenRun.{runOf, sumOf, runAfter, leftOf, outOf, Placed, Finished};
 ghost use Rattle.tidy.specs.Tidied.{Tidyable, TidyWritten, tidiedWords, Small, TidiedFrom};
 
@@ -17,6 +17,16 @@ ghost use Rattle.tidy.specs.Tidied.{Tidyable, TidyWritten, tidiedWords, 
 enum RunAt {
     Calm(bool),
     Within(usize, usize, bool),
+}
+
+// The slot at `word`, copied to `out`. The answer is the place after it.
+fn copy_slot(segment: &[u16], word: usize, width: usize, out: &mut [u16], place: usize) -> usize
+    requires { ⌜ (word + width ≤ length (now segment)) × (place + width ≤ length (now out)) ⌝ }
+    ensures { λ r. ⌜ Written (now (out .entry)) place (take width (drop word (now (segment .entry)))) (now (out .exit)) r ⌝ }
+{
+    let end = word + width;
+    copy_words(&segment[word..end], out, place);
+    place + width
 }
 
 // The entry at `word` with the length `sum`, written to `out`. The answer is the place after it.
@@ -31,7 +41,7 @@ fn put_run(
     requires { ⌜ (7 ≤ width) × (word + width ≤ length (now segment)) × (place + width ≤ length (now out)) × (sum ≤ 65535) ⌝ }
     ensures { λ r. ⌜ Written (now (out .entry)) place (set (take width (drop word (now (segment .entry)))) lengthWord sum) (now (out .exit)) r ⌝ }
 {
-    let next = copying::copy_slot(segment, word, width, out, place);
+    let next = copy_slot(segment, word, width, out, place);
     out[place + 4] = sum as u16;
     next
 }
@@ -71,7 +81,7 @@ fn pass_slot(
         return place;
     }
     let next = flush(segment, width, run, out, place);
-    copying::copy_slot(segment, word, width, out, next)
+    copy_slot(segment, word, width, out, next)
 }
 
 // Where the walk stands after the slot at `word`: an empty entry joins the run or opens one.
@@ -140,11 +150,11 @@ pub fn tidy_segment(segment: &mut [u16], width: usize)
     ensures { λ _. ⌜ now (segment .exit) ≡ tidiedWords width (now (segment .entry)) ⌝ }
 {
     let mut out = [0u16; 512];
-    copying::copy_words(&segment[..5], &mut out, 0);
+    copy_words(&segment[..5], &mut out, 0);
     if !write_tidied(segment, width, &mut out) {
         return;
     }
-    copying::copy_words(&out, segment, 0);
+    copy_words(&out, segment, 0);
 }
 
 // Every open segment tidied, in chain order. The tidy leaves the headers, so the links stay as they are followed.

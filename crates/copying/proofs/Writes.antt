@@ -1,15 +1,16 @@
 -- Words written into a list, one write after another. A write leaves what stands before and after it, so two that follow each
--- other are one write of both lists; a copy, word by word, is a write of what is copied. Assumes nothing.
-use Prim.Native.Nat.{ℕ, suc, _+_, _-_, _≤_, _<_}
-use native.Mathlib.Nat.{zero-add, suc-add}
+-- other are one write of both lists; a copy, word by word, is a write of what is copied; and what is written into zeros from their
+-- start is followed by zeros. Assumes nothing.
+use Prim.Native.Nat.{ℕ, zero, suc, _+_, _-_, _≤_, _<_}
+use native.Mathlib.Nat.{zero-add, suc-add, sub-zero, suc-sub-suc, zero-sub, not-suc-le-zero, le-of-suc-le-suc}
 use native.Mathlib.Numerals.{add-one}
 use native.Mathlib.Omega.{arith}
 use mathlib.Core.Path.{_≡_, refl, sym, ap, _∙_}
 use mathlib.Core.List.{List, [], _∷_, _++_, append-assoc, append-nil}
-use lib.ListN.{length, getD, take, drop, set, drop-of-length-le, length-set, length-append, length-drop}
+use lib.ListN.{length, getD, take, drop, set, replicate, drop-of-length-le, length-set, length-append, length-drop}
 use lib.Seq.{paste, paste-zero, paste-suc, length-paste, take-length, length-take-le, take-at, drop-at, drop-drop}
-use lib.Seq.{set-append-left, set-split}
-use Rattle.tidy.specs.Written.{Written}
+use lib.Seq.{set-append-left, set-split, take-append-add}
+use Rattle.copying.specs.Written.{Written}
 
 -- a turn of the copy, and its end
 pub copied-more : (b t : List ℕ) (q : ℕ) (s : List ℕ) (i : ℕ) → t ≡ paste b q s i → q + i < length b → i < length s
@@ -25,6 +26,14 @@ pub copied-whole : (g o : List ℕ) → length o ≡ length g → paste g 0 o (l
 copied-whole g o m =
     let d : drop (0 + length o) g ≡ [] = drop-of-length-le g {i = 0 + length o} (omega arith) in
     rw (take-length o, d) (append-nil o)
+
+-- a copy is a write
+pub pasted : (b a s : List ℕ) (q : ℕ) → q + length s ≤ length b → a ≡ paste b q s (length s) → Written b q s a (q + length s)
+pasted b a s q h e = record {
+  words = e ∙ rw (take-length s);
+  next = refl;
+  long = ap length e ∙ length-paste b q s (length s) h (omega arith);
+}
 
 -- nothing
 pub none-written : (b : List ℕ) (q : ℕ) → Written b q [] b q
@@ -65,11 +74,8 @@ slot-written g b a w p q hp hq e =
     let k : p + w - p ≡ w = omega arith in
     let j : length s ≡ w = length-take-le w (drop p g) (simp length-drop (omega arith)) in
     let f : a ≡ paste b q s (length s) = rw k at e in
-    record {
-      words = f ∙ rw (take-length s);
-      next = rw j refl;
-      long = ap length f ∙ length-paste b q s (length s) (omega arith) (omega arith);
-    }
+    let u = pasted b a s q (omega arith) f in
+    record { words = u .words; next = rw j refl; long = u .long }
 
 set-add : (xs ys : List ℕ) (n x : ℕ) → set (xs ++ ys) (length xs + n) x ≡ xs ++ set ys n x
 set-add [] ys n x = rw (zero-add n)
@@ -92,3 +98,26 @@ set-written b s a q z n x h i u =
       next = u .next ∙ rw m;
       long = length-set a (q + n) x ∙ u .long;
     }
+
+-- zeros
+drop-zeros : (n m : ℕ) → drop {A = ℕ} n (replicate m 0) ≡ replicate (m - n) 0
+drop-zeros zero m = rw (sub-zero m)
+drop-zeros (suc n) zero = rw (zero-sub (suc n))
+drop-zeros (suc n) (suc m) = rw (suc-sub-suc m n) (drop-zeros n m)
+
+pub take-zeros : (n m : ℕ) → n ≤ m → take {A = ℕ} n (replicate m 0) ≡ replicate n 0
+take-zeros zero m h = refl
+take-zeros (suc n) zero h = absurd (not-suc-le-zero h)
+take-zeros (suc n) (suc m) h = ap {B = List ℕ} (λ l. 0 ∷ l) (take-zeros n m (le-of-suc-le-suc h))
+
+-- words written into m zeros
+pub written-anew : (m : ℕ) (l o : List ℕ) (z : ℕ) → z ≤ m → Written (replicate m 0) 0 l o z → o ≡ take m (l ++ replicate m 0)
+written-anew m l o z h u =
+    let j : length l + (m - length l) ≡ m = omega (arith, u .next) in
+    let e : 0 + length l ≡ length l = zero-add (length l) in
+    u .words
+    ∙ rw (e, drop-zeros (length l) m)
+    (sym
+    (ap (λ (i : ℕ). take i (l ++ replicate m 0)) (sym j)
+    ∙ take-append-add l (replicate m 0) (m - length l)
+    ∙ rw (take-zeros (m - length l) m (omega arith))))

@@ -6,9 +6,9 @@ use mathlib.Core.Path.{_≡_, refl, _∙_}
 use Prim.Native.Nat.{_+_, _-_, _≤_}
 use lib.ListN.{length, length-set}
 use lib.Seq.{paste, paste-zero}
-use Rattle.tidy.proofs.Writes.{copied-more, copied-all}
-use Rattle.tidy.proofs.copying.copy_words.Statement.{statement}
-use Rattle.tidy.proofs.copying.copy_words.Tie as tie
+use Rattle.copying.proofs.Writes.{copied-more, copied-all}
+use Rattle.copying.proofs.copy_words.Statement.{statement}
+use Rattle.copying.proofs.copy_words.Tie as tie
 
 abbrev Inv-loop : tie.InvT-loop
 Inv-loop source target₀ place i₀ target i =

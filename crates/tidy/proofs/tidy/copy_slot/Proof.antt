@@ -2,9 +2,9 @@
 use borrow.Author.Needs.{needs}
 use denote.Ref.{now}
 use native.Mathlib.Omega.{arith}
-use Rattle.tidy.proofs.Writes.{slot-written}
-use Rattle.tidy.proofs.copying.copy_slot.Statement.{statement}
-use Rattle.tidy.proofs.copying.copy_slot.Tie as tie
+use Rattle.copying.proofs.Writes.{slot-written}
+use Rattle.tidy.proofs.tidy.copy_slot.Statement.{statement}
+use Rattle.tidy.proofs.tidy.copy_slot.Tie as tie
 
 add-end : tie.Need-add-end
 add-end c = search needs
@@ -34,7 +34,7 @@ returns : tie.Need-returns
 returns c =
     let a = c .before .before .before .before .before .before .before .args in
     let copied = c .before .before .copy-words in
-    slot-written (now (a .segment)) (now (a .target)) _ (a .width) (a .word) (a .place) (omega arith) (omega arith)
+    slot-written (now (a .segment)) (now (a .out)) _ (a .width) (a .word) (a .place) (omega arith) (omega arith)
     (copied .ensures)
 
 pub copy-slot-spec : {M : Type 1} → statement M
