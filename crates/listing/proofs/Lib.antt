@@ -1,0 +1,5 @@
+pub mod Writes
+pub mod Digits
+pub mod Shown
+pub mod Parts
+pub mod Marks

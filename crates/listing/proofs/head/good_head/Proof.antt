@@ -1,0 +1,94 @@
+-- `good_head` meets its contract: each test that fails makes the meaning's conjunction false, and the last is what is left of it.
+use borrow.Author.Needs.{needs}
+use native.Mathlib.Omega.{arith}
+use mathlib.Core.Path.{sym, _∙_}
+use lib.ListN.{length}
+use lib.Seq.{length-take-le}
+use denote.Ref.{now}
+use borrow.Author.Tests.{le-leb, lt-leb, eq-eqb, ne-eqb, not-true, not-false}
+use Rattle.names.specs.Text.{bytes}
+use Rattle.meaning.specs.Listing.{mark, goodHead, wordAt}
+use Rattle.listing.proofs.head.good_head.Statement.{statement}
+use Rattle.listing.proofs.head.good_head.Tie as tie
+
+returns : tie.Need-returns
+unfolding goodHead
+returns c =
+    let file = now (c .before .before .args .file) in
+    rw (lt-leb 7 (length file) (c .if1 .taken))
+
+returns-2 : tie.Need-returns-2
+unfolding goodHead
+returns-2 c =
+    let file = now (c .before .before .before .args .file) in
+    rw (le-leb 7 (length file) (c .before .if1 .left), lt-leb (length file) 31751 (c .if2 .taken))
+
+slice-aggregate-same-bytes : tie.Need-slice-aggregate-same-bytes
+slice-aggregate-same-bytes c = sym (length-take-le 3 (now (c .before .before .before .before .args .file)) (omega arith))
+
+slice-aggregate-same-bytes-2 : tie.Need-slice-aggregate-same-bytes-2
+slice-aggregate-same-bytes-2 c = search needs
+
+same-bytes-requires : tie.Need-same-bytes-requires
+same-bytes-requires c κs = search needs
+
+returns-3 : tie.Need-returns-3
+unfolding goodHead mark bytes
+returns-3 c =
+    let file = now (c .before .before .before .before .before .before .before .args .file) in
+    let s = c .before .same-bytes in
+    rw (
+      le-leb 7 (length file) (c .before .before .before .before .before .if1 .left),
+      le-leb (length file) 31751 (c .before .before .before .before .if2 .left),
+      ← s .ensures,
+      not-true (s .result) (c .if3 .taken),
+    )
+
+word-at-requires : tie.Need-word-at-requires
+word-at-requires c κs = search needs
+
+returns-4 : tie.Need-returns-4
+unfolding goodHead mark bytes
+returns-4 c =
+    let file = now (c .before .before .before .before .before .before .before .before .before .args .file) in
+    let s = c .before .before .before .same-bytes in
+    let w = c .before .word-at in
+    rw (
+      le-leb 7 (length file) (c .before .before .before .before .before .before .before .if1 .left),
+      le-leb (length file) 31751 (c .before .before .before .before .before .before .if2 .left),
+      ← s .ensures,
+      not-false (s .result) (c .before .before .if3 .left),
+      ne-eqb (wordAt file 3) 1 (λ e. c .if4 .taken (w .ensures .is ∙ e)),
+    )
+
+sub-result : tie.Need-sub-result
+sub-result c = search needs
+
+returns-5 : tie.Need-returns-5
+unfolding goodHead mark bytes
+returns-5 c =
+    let file = now (c .before .before .before .before .before .before .before .before .before .args .file) in
+    let s = c .before .before .before .same-bytes in
+    let w = c .before .word-at in
+    rw (
+      le-leb 7 (length file) (c .before .before .before .before .before .before .before .if1 .left),
+      le-leb (length file) 31751 (c .before .before .before .before .before .before .if2 .left),
+      ← s .ensures,
+      not-false (s .result) (c .before .before .if3 .left),
+      eq-eqb (wordAt file 3) 1 (sym (w .ensures .is) ∙ c .if4 .left),
+    )
+
+pub good-head-spec : {M : Type 1} → statement M
+good-head-spec =
+    tie.close
+    (tie.spec
+    returns
+    returns-2
+    slice-aggregate-same-bytes
+    slice-aggregate-same-bytes-2
+    same-bytes-requires
+    returns-3
+    word-at-requires
+    returns-4
+    sub-result
+    returns-5)
