@@ -1,0 +1,3 @@
+pub mod Copied
+pub mod Placing
+pub mod Surveyed

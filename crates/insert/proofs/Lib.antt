@@ -1,0 +1,6 @@
+pub mod Chunks
+pub mod Anew
+pub mod Counting
+pub mod Parts
+pub mod Halving
+pub mod Placing

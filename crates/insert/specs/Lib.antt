@@ -1,0 +1,3 @@
+pub mod Anew
+pub mod Halves
+pub mod Spots

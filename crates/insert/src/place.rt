@@ -1,0 +1,147 @@
+// The new entry placed in the area that was chosen: inserted into its segment, or into a half of it after a split. The directory is
+// a tidied copy that the caller throws away if it refuses, so it is written in place.
+use crate::measure;
+use crate::render;
+use crate::render::Tentative;
+use copying::copy_words;
+ghost use mathlib.Core.Path.{_≡_};
+ghost use Prim.Native.Nat.{_+_, _≤_, _<_};
+ghost use lib.ListN.{length};
+ghost use Rattle.meaning.specs.Words.{slotWords, slotCount, capacity, slots, upto, entries};
+ghost use Rattle.meaning.specs.Enter.{unsplit, split, entered};
+ghost use Rattle.directory.specs.Chained.{Chained};
+ghost use Rattle.insert.specs.Anew.{newEntry};
+ghost use Rattle.insert.specs.Spots.{areaOf, Chosen, Slot, Half, wholeSegment, oldSegment, freshSegment, Splittable, Enterable};
+
+// The area chosen: its segment, how many of the segment's entries stand before it, the word where its slot begins, and its cost.
+pub struct Spot {
+    pub seg: usize,
+    pub before: usize,
+    pub word: usize,
+    pub cost: usize,
+}
+
+// How many words a slot has.
+fn slot_words(directory: &[u16]) -> usize
+    requires { ⌜ Chained (now directory) ⌝ }
+    ensures { λ r. ⌜ r ≡ slotWords (now (directory .entry)) ⌝ }
+{
+    7 + (directory[3] / 2) as usize
+}
+
+// The segment of the area, which has this many entries and room for more, with the new entry.
+fn whole_segment(segment: &[u16], count: usize, spot: Spot, new: &[u16]) -> [u16; 512]
+    requires { ⌜ Slot (now segment) (now new) spot × (count ≡ length (upto (slots (length (now new)) (now segment)))) × (1 ≤ spot .cost) × (count + spot .cost < slotCount (length (now new))) ⌝ }
+    ensures { λ r. ⌜ r ≡ wholeSegment (now (segment .entry)) (now (new .entry)) spot ⌝ }
+{
+    let stop = 5 + count * new.len();
+    render::inserted_segment(
+        &segment[..5],
+        &segment[5..stop],
+        spot.word - 5,
+        spot.cost,
+        new,
+    )
+}
+
+// The new entry inserted into the segment of the area, which has this many entries and room for more.
+pub fn insert(directory: &mut [u16], spot: Spot, count: usize, new: Tentative)
+    requires { ⌜ Chained (now directory) × Chosen (now directory) spot (new .length) × (count ≡ length (entries (now directory) (spot .seg))) × (count + spot .cost ≤ capacity (now directory)) ⌝ }
+    ensures { λ _. ⌜ now (directory .exit) ≡ unsplit (now (directory .entry)) (newEntry (slotWords (now (directory .entry))) new) (new .length) (areaOf spot) ⌝ }
+{
+    let width = slot_words(directory);
+    let entry = render::entry_words(new);
+    let base = 512 * (spot.seg - 1);
+    let end = base + 512;
+    let segment = whole_segment(&directory[base..end], count, spot, &entry[..width]);
+    copy_words(&segment, directory, base);
+}
+
+// The old segment of a split: the entries that are kept, linked to the next segment. The new entry goes here if its area is kept.
+fn old_segment(segment: &[u16], kept: usize, next: u16, spot: Spot, new: &[u16]) -> [u16; 512]
+    requires { ⌜ Half (now segment) (now new) spot kept ⌝ }
+    ensures { λ r. ⌜ r ≡ oldSegment (now (segment .entry)) (now (new .entry)) spot kept next ⌝ }
+{
+    let stop = 5 + kept * new.len();
+    let mut header = [0u16; 5];
+    copy_words(&segment[..5], &mut header, 0);
+    header[1] = next;
+    if spot.before < kept {
+        return render::inserted_segment(&header, &segment[5..stop], spot.word - 5, spot.cost, new);
+    }
+    render::plain_segment(&header, &segment[5..stop])
+}
+
+// The new segment of a split: the rest of the entries, with the old link. The new entry goes here if its area is among the rest.
+// `total` and `extra` are the header words of segment 1.
+fn fresh_segment(
+    segment: &[u16],
+    count: usize,
+    kept: usize,
+    total: u16,
+    extra: u16,
+    spot: Spot,
+    new: &[u16],
+) -> [u16; 512]
+    requires { ⌜ Half (now segment) (now new) spot kept × (count ≡ length (upto (slots (length (now new)) (now segment)))) ⌝ }
+    ensures { λ r. ⌜ r ≡ freshSegment (now (segment .entry)) (now (new .entry)) spot kept total extra ⌝ }
+{
+    let width = new.len();
+    let start = 5 + kept * width;
+    let stop = 5 + count * width;
+    let first = segment[4] as usize + measure::sum_lengths(segment, width, kept);
+    let header = [total, segment[1], 0, extra, first as u16];
+    if spot.before < kept {
+        return render::plain_segment(&header, &segment[start..stop]);
+    }
+    render::inserted_segment(
+        &header,
+        &segment[start..stop],
+        spot.word - start,
+        spot.cost,
+        new,
+    )
+}
+
+// The segment of the area split in two, and the new entry inserted into the half that has the area.
+pub fn split_and_insert(directory: &mut [u16], spot: Spot, count: usize, new: Tentative)
+    requires { ⌜ Chained (now directory) × Chosen (now directory) spot (new .length) × (count ≡ length (entries (now directory) (spot .seg))) × Splittable (now directory) (spot .seg) ⌝ }
+    ensures { λ _. ⌜ now (directory .exit) ≡ split (now (directory .entry)) (newEntry (slotWords (now (directory .entry))) new) (new .length) (areaOf spot) ⌝ }
+{
+    let width = slot_words(directory);
+    let entry = render::entry_words(new);
+    let base = 512 * (spot.seg - 1);
+    let end = base + 512;
+    let highest = directory[2];
+    let next = highest + 1;
+    let kept = measure::count_kept(&directory[base..end], width, count);
+    let old = old_segment(&directory[base..end], kept, next, spot, &entry[..width]);
+    let fresh = fresh_segment(
+        &directory[base..end],
+        count,
+        kept,
+        directory[0],
+        directory[3],
+        spot,
+        &entry[..width],
+    );
+    copy_words(&old, directory, base);
+    copy_words(&fresh, directory, 512 * highest as usize);
+    directory[2] = next;
+}
+
+// Split only if the chosen segment lacks the slots. The marker takes one of them.
+pub fn enter_area(directory: &mut [u16], spot: Spot, new: Tentative)
+    requires { ⌜ Enterable (now directory) spot (new .length) ⌝ }
+    ensures { λ _. ⌜ now (directory .exit) ≡ entered (now (directory .entry)) (newEntry (slotWords (now (directory .entry))) new) (new .length) (areaOf spot) ⌝ }
+{
+    let width = slot_words(directory);
+    let base = 512 * (spot.seg - 1);
+    let end = base + 512;
+    let count = measure::count_entries(&directory[base..end], width);
+    if count + spot.cost < 507 / width {
+        insert(directory, spot, count, new);
+        return;
+    }
+    split_and_insert(directory, spot, count, new);
+}
