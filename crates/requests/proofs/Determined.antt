@@ -9,6 +9,7 @@ use Rattle.requests.proofs.delete.Reads as delete
 use Rattle.requests.proofs.abandon.Reads as abandon
 use Rattle.requests.proofs.rename.Reads as rename
 use Rattle.requests.proofs.close.Reads as close
+use Rattle.requests.proofs.enter.Reads as enter
 use Rattle.requests.proofs.fresh.Reads as fresh
 
 pub fault-determined : (κs : _) (a : _) (r r′ : _) (s s′ : _) → fault.Post κs a r s → fault.Post κs a r′ s′ → r ≡ r′
@@ -32,6 +33,10 @@ rename-determined κs a r r′ s s′ p q = (p .answer ∙ sym (q .answer), p .w
 pub close-determined : (κs : _) (a : _) (r r′ : _) (s s′ : _) → close.Post κs a r s → close.Post κs a r′ s′
     → (r ≡ r′) × (now (s .0) ≡ now (s′ .0))
 close-determined κs a r r′ s s′ p q = (p .answer ∙ sym (q .answer), p .words ∙ sym (q .words))
+
+pub enter-determined : (κs : _) (a : _) (r r′ : _) (s s′ : _) → enter.Post κs a r s → enter.Post κs a r′ s′
+    → (r ≡ r′) × (now (s .0) ≡ now (s′ .0))
+enter-determined κs a r r′ s s′ p q = (p .answer ∙ sym (q .answer), p .words ∙ sym (q .words))
 
 pub fresh-determined : (κs : _) (a : _) (r r′ : _) (s s′ : _) → fresh.Post κs a r s → fresh.Post κs a r′ s′
     → (r ≡ r′) × (now (s .0) ≡ now (s′ .0))

@@ -2,3 +2,4 @@ pub mod Doors
 pub mod Finals
 pub mod Closes
 pub mod Determined
+pub mod Enters

@@ -1,5 +1,7 @@
 // The requests of document 01 at the door: any words, any V, any request may be handed in. Each is refused by its number, in the order of
 // the numbers, or carried out by the engine behind, which tests nothing again. A refusal answers zeros and changes no word.
+use choice::size::is_good_size;
+use choice::size::size_of;
 use directory::find::find_entry;
 use directory::head::size_wrong;
 use directory::sound::fault_of;
@@ -7,8 +9,10 @@ use edits::change::give_name;
 use edits::change::make_empty;
 use edits::change::make_permanent;
 use edits::fresh::start_fresh;
+use enter::enter_file;
 use meaning::Answer;
 use meaning::Name;
+use names::dates::is_good_date;
 use names::radix::is_legal_name;
 use segment::finder::Found;
 use segment::finder::Key;
@@ -18,6 +22,7 @@ ghost use Prim.Native.Nat.{_≤_};
 ghost use lib.ListN.{length};
 ghost use Rattle.meaning.specs.Sound.{fault};
 ghost use Rattle.meaning.specs.Requests.{lookup, delete, abandon, rename, close, fresh, goodChannel};
+ghost use Rattle.meaning.specs.Enter.{enter};
 ghost use Rattle.meaning.specs.Answers.{write};
 ghost use Rattle.segment.specs.Finder.{Inside};
 ghost use Rattle.requests.specs.Closing.{finalBy, replacingAt, Opened, closedOn};
@@ -234,6 +239,43 @@ pub fn close(d: &mut [u16], v: usize, job: u16, channel: u16, size: i32) -> Answ
     match final_of(size, place.length) {
         Final::Length(blocks) => close_at(d, v, word, place, blocks),
         Final::Wrong => refused(16),
+    }
+}
+
+// A size is -1 for the longest, 0 for RT-11's default, or 1 to 65,535 blocks.
+pub fn enter(
+    d: &mut [u16],
+    v: usize,
+    name: Name,
+    size: i32,
+    job: u16,
+    channel: u16,
+    date: u16,
+) -> Answer
+    ensures { λ r. ⌜ Meets r (now (d .exit)) (enter v (now (d .entry)) (name .first) (name .second) (name .extension) size job channel date) ⌝ }
+{
+    let number = fault_of(d, v);
+    if number != 0 {
+        return refused(number);
+    }
+    if !is_legal_name(name.first, name.second, name.extension) {
+        return refused(7);
+    }
+    if !is_channel(job, channel) {
+        return refused(8);
+    }
+    let asked = size_of(size);
+    if !is_good_size(asked) {
+        return refused(9);
+    }
+    if !is_good_date(date) {
+        return refused(9);
+    }
+    let word = job * 256 + channel;
+    let found = find_entry(d, Key::Open(word));
+    match found {
+        Found::At(_) => refused(10),
+        Found::Nothing => enter_file(d, v, name, asked, word, date),
     }
 }
 
