@@ -7,3 +7,5 @@ pub mod Clashing
 pub mod Buckets
 pub mod InPlace
 pub mod Listing
+pub mod Stepping
+pub mod Walking

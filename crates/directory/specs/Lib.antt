@@ -4,3 +4,4 @@ pub mod Measure
 pub mod Find
 pub mod Candidates
 pub mod Buckets
+pub mod Cursor
