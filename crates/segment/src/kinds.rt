@@ -1,4 +1,4 @@
-// The kind of a slot, by its status word. The numbers stand here and nowhere else in the code: a new status is a change here.
+// The kind of a slot, by its status word. Code that reads asks here; those that write one (edits, tidy, insert) write its number.
 use meaning::Kind;
 ghost use mathlib.Core.Path.{_≡_};
 ghost use Rattle.meaning.specs.Kinds.{kindOf, isTentative, isEmpty, isPermanent, isEnd};
