@@ -32,7 +32,7 @@ permanent-kind Permanent h = refl
 permanent-kind End h = absurd (false≢true h)
 permanent-kind Unknown h = absurd (false≢true h)
 
-tentative-kind : (k : Kind) → isTentative k ≡ true → k ≡ Tentative
+pub tentative-kind : (k : Kind) → isTentative k ≡ true → k ≡ Tentative
 tentative-kind Tentative h = refl
 tentative-kind Empty h = absurd (false≢true h)
 tentative-kind Permanent h = absurd (false≢true h)

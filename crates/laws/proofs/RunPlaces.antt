@@ -11,12 +11,13 @@ use lib.ListN.{length, getD, take, drop, length-append, length-take, length-drop
 use lib.Seq.{getD-take, getD-drop, getD-append-add, getD-append-seam, drop-drop, take-append-seam, drop-append-seam}
 use Rattle.names.proofs.Bools.{never}
 use Rattle.meaning.specs.declared.Kind.{Kind}
-use Rattle.meaning.specs.declared.Kind.the-variants.{Tentative, Empty, Permanent, End, Unknown}
+use Rattle.meaning.specs.declared.Kind.the-variants.{Tentative, Empty}
 use Rattle.meaning.specs.Kinds.{isTentative}
 use Rattle.meaning.specs.Words.{Entry, kind, total}
 use Rattle.meaning.specs.Enter.{isArea, costAfter}
 use Rattle.laws.specs.Order.{All}
 use Rattle.laws.specs.Room.{Run, joinedLength, Takes}
+use Rattle.laws.proofs.Keys.{tentative-kind}
 use Rattle.laws.proofs.Fine.{flag, empty-kind}
 use Rattle.laws.proofs.Runs.{opens, closes, IsArea, RunOf}
 
@@ -153,15 +154,7 @@ piece-run es n p r =
       flag = ap (flag false) (take-append-seam (c .before) (c .run ++ c .after)) ∙ r .flag;
     })
 
--- the slots
-tentative-kind : (k : Kind) → isTentative k ≡ true → k ≡ Tentative
-tentative-kind Tentative h = refl
-tentative-kind Empty h = absurd (false≢true h)
-tentative-kind Permanent h = absurd (false≢true h)
-tentative-kind End h = absurd (false≢true h)
-tentative-kind Unknown h = absurd (false≢true h)
-
--- a tentative entry stands directly before place k
+-- the slots: a tentative entry stands directly before place k
 abbrev Behind : List Entry → ℕ → Type 0
 Behind es k = (1 ≤ k) × (kind (getD es (k - 1) []) ≡ Tentative)
 

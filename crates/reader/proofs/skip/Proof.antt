@@ -1,3 +1,5 @@
+-- `skip` meets its contract. The loop's invariant: the place after what is left to skip, from here, is the place after all of it; a
+-- step takes one off (`skip-on`), and at the end nothing moves (`skip-end`). A refused reader stays.
 use native.Mathlib.Omega.{arith}
 use mathlib.Core.Path.{_≡_, refl, sym, ap, _∙_}
 use borrow.Author.Needs.{needs}
@@ -6,9 +8,6 @@ use Rattle.reader.specs.Read.{skipped}
 use Rattle.reader.proofs.Reading.{skip-on, skip-none, skip-end, stays, skips}
 use Rattle.reader.proofs.skip.Statement.{statement}
 use Rattle.reader.proofs.skip.Tie as tie
-use Rattle.reader.proofs.skip.Reads as reads
-use Rattle.reader.proofs.skip.Lts as lts
-use Rattle.directory.proofs.cursor.step_from.Reads as step-from-reads
 
 abbrev Inv-loop : tie.InvT-loop
 Inv-loop words number count here₀ left₀ here left = skipped left words here ≡ skipped left₀ words here₀

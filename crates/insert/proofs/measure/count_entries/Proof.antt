@@ -1,3 +1,4 @@
+-- `count_entries` meets its contract. The loop's invariant: the entries met and those ahead are all entries.
 use borrow.Author.Needs.{needs}
 use native.Mathlib.Omega.{arith}
 use mathlib.Core.Path.{_≡_, refl, sym, ap, _∙_}

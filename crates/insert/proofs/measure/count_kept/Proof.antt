@@ -1,3 +1,4 @@
+-- `count_kept` meets its contract: a return for no half, one for a last entry that is tentative, and one for any other.
 use borrow.Author.Needs.{needs}
 use native.Mathlib.Omega.{arith}
 use mathlib.Core.Path.{_≡_, refl, sym, ap, _∙_}

@@ -1,3 +1,4 @@
+-- `sum_lengths` meets its contract. The loop's invariant: the sum so far and the lengths ahead are the whole sum.
 use borrow.Author.Needs.{needs}
 use native.Mathlib.Omega.{arith}
 use mathlib.Core.Path.{_≡_, refl, sym, ap, _∙_}

@@ -1,3 +1,4 @@
+-- `enter_area` meets its contract: the test of the slots is the meaning's, so each arm returns what the meaning asks.
 use borrow.Author.Needs.{needs}
 use native.Mathlib.Omega.{arith}
 use mathlib.Core.Path.{_≡_, refl, sym, ap, _∙_}

@@ -1,3 +1,4 @@
+-- `fresh_segment` meets its contract: a return for the rest as they are, and one for the area among them.
 use borrow.Author.Needs.{needs}
 use native.Mathlib.Omega.{arith}
 use mathlib.Core.Path.{_≡_, refl, sym, ap, _∙_}

@@ -1,3 +1,4 @@
+-- `insert` meets its contract: the part that is lent is the segment of the area, and what is made of it takes its place.
 use borrow.Author.Needs.{needs}
 use native.Mathlib.Omega.{arith}
 use mathlib.Core.Path.{_≡_, refl, sym, ap, _∙_}

@@ -1,3 +1,4 @@
+-- `old_segment` meets its contract: a return for the area among the entries that are kept, and one for the entries as they are.
 use borrow.Author.Needs.{needs}
 use native.Mathlib.Omega.{arith}
 use mathlib.Core.Path.{_≡_, refl, sym, ap, _∙_}

@@ -1,3 +1,4 @@
+-- `split_and_insert` meets its contract: both halves are made of the directory as it was, and then put, one after the other.
 use borrow.Author.Needs.{needs}
 use native.Mathlib.Omega.{arith}
 use mathlib.Core.Path.{_≡_, refl, sym, ap, _∙_}

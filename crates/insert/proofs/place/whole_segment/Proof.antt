@@ -1,3 +1,4 @@
+-- `whole_segment` meets its contract: the entries are one part of the segment's words, and the part has room.
 use borrow.Author.Needs.{needs}
 use native.Mathlib.Omega.{arith}
 use mathlib.Core.Path.{_≡_, refl, sym, ap, _∙_}

@@ -1,3 +1,4 @@
+-- `entry_words` meets its contract: seven words stored into zeros, by computation.
 use borrow.Author.Needs.{needs}
 use native.Mathlib.Omega.{arith}
 use mathlib.Core.Path.{_≡_, refl, sym, ap, _∙_}

@@ -1,3 +1,4 @@
+-- `inserted_segment` meets its contract: header, words with the new entry among them, and marker written into zeros.
 use borrow.Author.Needs.{needs}
 use native.Mathlib.Omega.{arith}
 use mathlib.Core.Path.{_≡_, refl, sym, ap, _∙_}

@@ -1,3 +1,4 @@
+-- `plain_segment` meets its contract: header, words and marker written into zeros.
 use borrow.Author.Needs.{needs}
 use native.Mathlib.Omega.{arith}
 use mathlib.Core.Path.{_≡_, refl, sym, ap, _∙_}

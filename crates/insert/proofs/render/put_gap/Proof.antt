@@ -1,3 +1,4 @@
+-- `put_gap` meets its contract: at cost 2 the array begins with the gap's words, and else there are none to write.
 use borrow.Author.Needs.{needs}
 use native.Mathlib.Omega.{arith}
 use mathlib.Core.Path.{_≡_, refl, sym, ap, _∙_}

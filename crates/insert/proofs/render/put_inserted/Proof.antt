@@ -1,3 +1,4 @@
+-- `put_inserted` meets its contract: four writes, each where the one before it ends, and then the area's length changed.
 use borrow.Author.Needs.{needs}
 use native.Mathlib.Omega.{arith}
 use mathlib.Core.Path.{_≡_, refl, sym, ap, _∙_}
