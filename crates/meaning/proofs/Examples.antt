@@ -20,12 +20,12 @@ use Rattle.meaning.specs.Enter.{areasIn, areas, eligibles, longestOf, wi
 use Rattle.meaning.specs.Enter.{endsTentative, kept, inserted, unsplit, split, entered, enter}
 use Rattle.meaning.specs.Batch.{serve, wordsAfter, answersTo, batch}
 use Rattle.meaning.specs.Listing.{sameBytes}
-use Rattle.meaning.specs.Examples.{nameOf, ask, table, filesFrom, slips, answered, runs, allRight}
+use Rattle.meaning.specs.Examples.{nameOf, ask, table, filesFrom, slips, answered, left, runs, asked, roomFor, allAnswered, batches, allRight}
 
 pub examples : allRight table ≡ true
-unfolding bytes alphabet shown place codeOf packed packedAt spelled textOf inName inText blank padded legalText spells legalName wordsOfText textOfWords years monthLengths isLeap daysIn inCalendar dateWord dayField monthField namesDay goodDate wordOfDay kindOf segment capacity named chunks slots upto entries total chainFrom reached chain rowsIn segmentRows rowsOf rows entriesOf allEntries any bad1 bad2 times eachOnce differs bad3 unmarked longName badName beginsEmpty alone badSlots bad4 filled bad5 clash clashes bad6 fault refuse success find permanentNamed fileOf tentativeOn openOn write requests-shown lookup emptying delete goodChannel abandon renaming rename replacing closing finalLength close entryOf flat render freshWords fresh sizeOf joined dropZero tidy withSegment headerOf tidiedAt tidied costAfter hasRoom areasIn areas eligibles longestOf without secondOf wanted atLeast longEnough firstFit endsTentative kept inserted unsplit split entered enter serve wordsAfter answersTo batch sameBytes nameOf ask table filesFrom slips answered runs allRight
+unfolding bytes alphabet shown place codeOf packed packedAt spelled textOf inName inText blank padded legalText spells legalName wordsOfText textOfWords years monthLengths isLeap daysIn inCalendar dateWord dayField monthField namesDay goodDate wordOfDay kindOf segment capacity named chunks slots upto entries total chainFrom reached chain rowsIn segmentRows rowsOf rows entriesOf allEntries any bad1 bad2 times eachOnce differs bad3 unmarked longName badName beginsEmpty alone badSlots bad4 filled bad5 clash clashes bad6 fault refuse success find permanentNamed fileOf tentativeOn openOn write requests-shown lookup emptying delete goodChannel abandon renaming rename replacing closing finalLength close entryOf flat render freshWords fresh sizeOf joined dropZero tidy withSegment headerOf tidiedAt tidied costAfter hasRoom areasIn areas eligibles longestOf without secondOf wanted atLeast longEnough firstFit endsTentative kept inserted unsplit split entered enter serve wordsAfter answersTo batch sameBytes nameOf ask table filesFrom slips answered left runs asked roomFor allAnswered batches allRight
 examples = refl
 
 pub warned : allRight slips ≡ true
-unfolding bytes alphabet shown place codeOf packed packedAt spelled textOf inName inText blank padded legalText spells legalName wordsOfText textOfWords years monthLengths isLeap daysIn inCalendar dateWord dayField monthField namesDay goodDate wordOfDay kindOf segment capacity named chunks slots upto entries total chainFrom reached chain rowsIn segmentRows rowsOf rows entriesOf allEntries any bad1 bad2 times eachOnce differs bad3 unmarked longName badName beginsEmpty alone badSlots bad4 filled bad5 clash clashes bad6 fault refuse success find permanentNamed fileOf tentativeOn openOn write requests-shown lookup emptying delete goodChannel abandon renaming rename replacing closing finalLength close entryOf flat render freshWords fresh sizeOf joined dropZero tidy withSegment headerOf tidiedAt tidied costAfter hasRoom areasIn areas eligibles longestOf without secondOf wanted atLeast longEnough firstFit endsTentative kept inserted unsplit split entered enter serve wordsAfter answersTo batch sameBytes nameOf ask table filesFrom slips answered runs allRight
+unfolding bytes alphabet shown place codeOf packed packedAt spelled textOf inName inText blank padded legalText spells legalName wordsOfText textOfWords years monthLengths isLeap daysIn inCalendar dateWord dayField monthField namesDay goodDate wordOfDay kindOf segment capacity named chunks slots upto entries total chainFrom reached chain rowsIn segmentRows rowsOf rows entriesOf allEntries any bad1 bad2 times eachOnce differs bad3 unmarked longName badName beginsEmpty alone badSlots bad4 filled bad5 clash clashes bad6 fault refuse success find permanentNamed fileOf tentativeOn openOn write requests-shown lookup emptying delete goodChannel abandon renaming rename replacing closing finalLength close entryOf flat render freshWords fresh sizeOf joined dropZero tidy withSegment headerOf tidiedAt tidied costAfter hasRoom areasIn areas eligibles longestOf without secondOf wanted atLeast longEnough firstFit endsTentative kept inserted unsplit split entered enter serve wordsAfter answersTo batch sameBytes nameOf ask table filesFrom slips answered left runs asked roomFor allAnswered batches allRight
 warned = refl

@@ -20,7 +20,7 @@ use Rattle.meaning.specs.Sound.{fault}
 use Rattle.meaning.specs.Answers.{Outcome}
 use Rattle.meaning.specs.Requests as Requests
 use Rattle.meaning.specs.Requests.{entryOf, render}
-use Rattle.meaning.specs.Batch.{serve}
+use Rattle.meaning.specs.Batch.{serve, Batched, batch}
 use Rattle.meaning.specs.Listing.{sameBytes}
 
 -- a step of an example: a fresh start with E extra words, or a request
@@ -37,11 +37,12 @@ pub record Step : Type 0 where
   pub date : ℕ
 
 -- a row of the table: a text and its three words; a day, its number and word; a run: V, the words that it begins with, its steps, and
--- the lengths of all entries in the end; or the fault's number of V and words
+-- the lengths of all entries in the end; the same as one batch; or the fault's number of V and words
 pub data Case : Type 0 where
   spelled : String → ℕ → ℕ → ℕ → Case
   dated : ℕ → ℕ → ℕ → ℕ → ℕ → Case
   run : ℕ → List ℕ → List Step → List ℕ → Case
+  batched : ℕ → List ℕ → List Step → List ℕ → Case
   faulty : ℕ → List ℕ → ℕ → Case
 
 -- N segments of words that don't matter
@@ -201,6 +202,15 @@ slips =
     ∷ run 90 fullSegment
     (gives (entering "DAY   CHG" (pos 3) 0 4 3556) 0 45 3 3556 ∷ [])
     (replicate 34 1 ++ 1 ∷ 0 ∷ 3 ∷ 7 ∷ replicate 35 1)
+    ∷ batched 100 (oneSegment (file 1600 50 ∷ area 42 ∷ []))
+    (gives (deleting "B        ") 13 0 0 0
+    ∷ gives (entering "C        " (pos 10) 0 3 0) 0 58 10 0
+    ∷ gives (closing 0 3 (pos 31)) 16 0 0 0
+    ∷ gives (closing 0 3 (pos 7)) 0 58 7 0
+    ∷ gives (looking "C        ") 0 58 7 0
+    ∷ gives (deleting "A        ") 0 8 50 0
+    ∷ [])
+    (50 ∷ 7 ∷ 35 ∷ [])
     ∷ []
 
 abbrev pub outcome : ℕ → List ℕ → Ask → Outcome
@@ -211,12 +221,46 @@ unfoldable pub answered : Answer → Step → Bool
 answered a s =
     eqb (a .number) (s .number) && eqb (a .first) (s .first) && eqb (a .length) (s .length) && eqb (a .date) (s .date)
 
+-- a sound directory of these lengths
+unfoldable pub left : ℕ → List ℕ → List ℕ → Bool
+left v d ns = sameBytes (map blocks (allEntries d)) ns && eqb (fault v d) 0
+
 -- each answer as the step says, and in the end a sound directory of these lengths
 unfoldable pub runs : ℕ → List ℕ → List Step → List ℕ → Bool
-runs v d [] ns = sameBytes (map blocks (allEntries d)) ns && eqb (fault v d) 0
+runs v d [] ns = left v d ns
 runs v d (s ∷ ss) ns =
     let o = outcome v d (s .ask) in
     answered (o .answer) s && runs v (o .words) ss ns
+
+-- the requests that the steps make
+abbrev pub requested : Ask → List Request → List Request
+requested (start e) qs = qs
+requested (request q) qs = q ∷ qs
+
+unfoldable pub asked : List Step → List Request
+asked [] = []
+asked (s ∷ ss) = requested (s .ask) (asked ss)
+
+-- room for the answers
+unfoldable pub roomFor : List Step → List Answer
+roomFor [] = []
+roomFor (s ∷ ss) = record { number = 0; first = 0; length = 0; date = 0 } ∷ roomFor ss
+
+-- each answer as the step says
+unfoldable pub allAnswered : List Answer → List Step → Bool
+allAnswered [] [] = true
+allAnswered [] (s ∷ ss) = false
+allAnswered (a ∷ us) [] = false
+allAnswered (a ∷ us) (s ∷ ss) = let r = allAnswered us ss in answered a s && r
+
+-- as one batch: each answer as the step says, and what is left; 18 where there is no room for the answers
+unfoldable pub batches : ℕ → List ℕ → List Step → List ℕ → Bool
+batches v d ss ns =
+    let b = batch v d (asked ss) (roomFor ss) in
+    eqb (b .number) 0
+    && allAnswered (b .answers) ss
+    && left v (b .words) ns
+    && eqb (batch v d (asked ss) [] .number) 18
 
 abbrev pub right : Case → Bool
 right (spelled t a b c) =
@@ -224,6 +268,7 @@ right (spelled t a b c) =
     eqb (w .number) 0 && eqb (w .first) a && eqb (w .second) b && eqb (w .extension) c
 right (dated d m y number word) = let w = wordOfDay d m y in eqb (w .number) number && eqb (w .word) word
 right (run v d ss ns) = runs v d ss ns
+right (batched v d ss ns) = batches v d ss ns
 right (faulty v d k) = eqb (fault v d) k
 
 unfoldable pub allRight : List Case → Bool

@@ -11,6 +11,7 @@ use Rattle.requests.proofs.rename.Reads as rename
 use Rattle.requests.proofs.close.Reads as close
 use Rattle.requests.proofs.enter.Reads as enter
 use Rattle.requests.proofs.fresh.Reads as fresh
+use Rattle.requests.proofs.serve.Reads as serve
 
 pub fault-determined : (κs : _) (a : _) (r r′ : _) (s s′ : _) → fault.Post κs a r s → fault.Post κs a r′ s′ → r ≡ r′
 fault-determined κs a r r′ s s′ p q = p ∙ sym q
@@ -41,3 +42,7 @@ enter-determined κs a r r′ s s′ p q = (p .answer ∙ sym (q .answer), p .wo
 pub fresh-determined : (κs : _) (a : _) (r r′ : _) (s s′ : _) → fresh.Post κs a r s → fresh.Post κs a r′ s′
     → (r ≡ r′) × (now (s .0) ≡ now (s′ .0))
 fresh-determined κs a r r′ s s′ p q = (p .answer ∙ sym (q .answer), p .words ∙ sym (q .words))
+
+pub serve-determined : (κs : _) (a : _) (r r′ : _) (s s′ : _) → serve.Post κs a r s → serve.Post κs a r′ s′
+    → (r ≡ r′) × (now (s .0) ≡ now (s′ .0))
+serve-determined κs a r r′ s s′ p q = (p .answer ∙ sym (q .answer), p .words ∙ sym (q .words))

@@ -3,3 +3,4 @@ pub mod Finals
 pub mod Closes
 pub mod Determined
 pub mod Enters
+pub mod Serving

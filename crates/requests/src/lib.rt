@@ -12,6 +12,8 @@ use edits::fresh::start_fresh;
 use enter::enter_file;
 use meaning::Answer;
 use meaning::Name;
+use meaning::Op;
+use meaning::Request;
 use names::dates::is_good_date;
 use names::radix::is_legal_name;
 use segment::finder::Found;
@@ -23,6 +25,7 @@ ghost use lib.ListN.{length};
 ghost use Rattle.meaning.specs.Sound.{fault};
 ghost use Rattle.meaning.specs.Requests.{lookup, delete, abandon, rename, close, fresh, goodChannel};
 ghost use Rattle.meaning.specs.Enter.{enter};
+ghost use Rattle.meaning.specs.Batch.{serve};
 ghost use Rattle.meaning.specs.Answers.{write};
 ghost use Rattle.segment.specs.Finder.{Inside};
 ghost use Rattle.requests.specs.Closing.{finalBy, replacingAt, Opened, closedOn};
@@ -296,5 +299,29 @@ pub fn fresh(d: &mut [u16], v: usize, extra: usize) -> Answer
         first: first as u16,
         length: (v - first) as u16,
         date: 0,
+    }
+}
+
+// One door for a request record of any kind: a batch, and whatever plans requests, comes in by it.
+pub fn serve(d: &mut [u16], v: usize, request: Request) -> Answer
+    ensures { λ r. ⌜ Meets r (now (d .exit)) (serve v (now (d .entry)) request) ⌝ }
+{
+    let op = request.op;
+    let name = request.name;
+    match op {
+        Op::Lookup => lookup(d, v, name),
+        Op::Enter => enter(
+            d,
+            v,
+            name,
+            request.size,
+            request.job,
+            request.channel,
+            request.date,
+        ),
+        Op::Close => close(d, v, request.job, request.channel, request.final_length),
+        Op::Abandon => abandon(d, v, request.job, request.channel),
+        Op::Delete => delete(d, v, name),
+        Op::Rename => rename(d, v, name, request.new_name),
     }
 }
