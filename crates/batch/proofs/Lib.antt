@@ -1,0 +1,5 @@
+pub mod Again
+pub mod Lent
+pub mod Fold
+pub mod AtMost
+pub mod Determined
