@@ -3,3 +3,8 @@ pub mod Digits
 pub mod Shown
 pub mod Parts
 pub mod Marks
+pub mod Loaded
+pub mod Sums
+pub mod Shows
+pub mod Whole
+pub mod Determined

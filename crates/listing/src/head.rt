@@ -23,7 +23,7 @@ fn same_bytes(x: &[u8], y: &[u8]) -> bool
 }
 
 // The word at byte k, low byte first.
-fn word_at(file: &[u8], k: usize) -> usize
+pub(crate) fn word_at(file: &[u8], k: usize) -> usize
     requires { ⌜ k + 1 < length (now file) ⌝ }
     ensures { λ r. ⌜ WordRead (now (file .entry)) k r ⌝ }
 {
@@ -31,7 +31,7 @@ fn word_at(file: &[u8], k: usize) -> usize
 }
 
 // Whether a file is not refused 17: its length, its mark, its version, and whole words after V.
-pub fn good_head(file: &[u8]) -> bool
+pub(crate) fn good_head(file: &[u8]) -> bool
     ensures { λ r. ⌜ r ≡ goodHead (now (file .entry)) ⌝ }
 {
     if file.len() < 7 {
@@ -50,7 +50,7 @@ pub fn good_head(file: &[u8]) -> bool
 }
 
 // V, which stands after the version.
-pub fn volume_in(file: &[u8]) -> usize
+pub(crate) fn volume_in(file: &[u8]) -> usize
     requires { ⌜ headBytes ≤ length (now file) ⌝ }
     ensures { λ r. ⌜ VolumeRead (now (file .entry)) r ⌝ }
 {

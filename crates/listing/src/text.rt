@@ -12,7 +12,7 @@ ghost use Rattle.listing.specs.Bounds.{Spelled};
 use meaning::Kind;
 
 // Any bytes, as they are.
-pub fn put_bytes(out: &mut [u8], at: usize, text: &[u8]) -> usize
+fn put_bytes(out: &mut [u8], at: usize, text: &[u8]) -> usize
     requires { ⌜ at + length (now text) ≤ length (now out) ⌝ }
     ensures { λ r. ⌜ Wrote (now (out .entry)) at (now (text .entry)) (now (out .exit)) r ⌝ }
 {
@@ -25,7 +25,7 @@ pub fn put_bytes(out: &mut [u8], at: usize, text: &[u8]) -> usize
 }
 
 // A number in decimal: the digits before its last one are those of its tenth, so that they come out first.
-pub fn decimal(out: &mut [u8], at: usize, n: usize) -> usize
+fn decimal(out: &mut [u8], at: usize, n: usize) -> usize
     requires { ⌜ (n ≤ 65535) × (at + 5 ≤ length (now out)) ⌝ }
     ensures { λ r. ⌜ WroteAtMost 5 (now (out .entry)) at (decimal n) (now (out .exit)) r ⌝ }
 {
@@ -40,7 +40,7 @@ pub fn decimal(out: &mut [u8], at: usize, n: usize) -> usize
 }
 
 // A number six wide: the last six bytes of six spaces and the number, so that no space is counted.
-pub fn six_wide(out: &mut [u8], at: usize, n: usize) -> usize
+fn six_wide(out: &mut [u8], at: usize, n: usize) -> usize
     requires { ⌜ (n ≤ 65535) × (at + 6 ≤ length (now out)) ⌝ }
     ensures { λ r. ⌜ WroteAtMost 6 (now (out .entry)) at (sixWide n) (now (out .exit)) r ⌝ }
 {
@@ -51,7 +51,7 @@ pub fn six_wide(out: &mut [u8], at: usize, n: usize) -> usize
 }
 
 // A day or a month in two digits, with a zero before it where it has one.
-pub fn two_digits(out: &mut [u8], at: usize, n: u16) -> usize
+fn two_digits(out: &mut [u8], at: usize, n: u16) -> usize
     requires { ⌜ (n < 100) × (at + 2 ≤ length (now out)) ⌝ }
     ensures { λ r. ⌜ WroteAtMost 2 (now (out .entry)) at (twoDigits n) (now (out .exit)) r ⌝ }
 {
@@ -62,7 +62,7 @@ pub fn two_digits(out: &mut [u8], at: usize, n: u16) -> usize
 
 // A date word as 15-03-1976, or ten hyphens: a word that names no day is read as day 0, which no calendar day is. The year is lent
 // the room of any number, a byte more than it takes.
-pub fn date_text(out: &mut [u8], at: usize, word: u16) -> usize
+fn date_text(out: &mut [u8], at: usize, word: u16) -> usize
     requires { ⌜ at + 11 ≤ length (now out) ⌝ }
     ensures { λ r. ⌜ WroteAtMost 10 (now (out .entry)) at (dateText word) (now (out .exit)) r ⌝ }
 {
@@ -88,7 +88,7 @@ fn dotted(out: &mut [u8], at: usize, text: &[u8]) -> usize
 }
 
 // The name that three words spell: six characters, a dot, and the extension.
-pub fn name_text(out: &mut [u8], at: usize, a: u16, b: u16, c: u16) -> usize
+fn name_text(out: &mut [u8], at: usize, a: u16, b: u16, c: u16) -> usize
     requires { ⌜ (a ≤ 63999) × (b ≤ 63999) × (c ≤ 63999) × (at + 10 ≤ length (now out)) ⌝ }
     ensures { λ r. ⌜ WroteAtMost 10 (now (out .entry)) at (nameBy a b c) (now (out .exit)) r ⌝ }
 {
@@ -98,7 +98,7 @@ pub fn name_text(out: &mut [u8], at: usize, a: u16, b: u16, c: u16) -> usize
 }
 
 // The letter of a kind. A marker and an unknown status have no row, and so no letter.
-pub fn letter(out: &mut [u8], at: usize, kind: Kind) -> usize
+fn letter(out: &mut [u8], at: usize, kind: Kind) -> usize
     requires { ⌜ at + 1 ≤ length (now out) ⌝ }
     ensures { λ r. ⌜ WroteAtMost 1 (now (out .entry)) at (letter kind) (now (out .exit)) r ⌝ }
 {
@@ -158,7 +158,7 @@ fn row_end(out: &mut [u8], at: usize, kind: Kind, date: u16) -> usize
 }
 
 // The row of an entry, by its kind, name words, first block, length and date word.
-pub fn row_text(
+pub(crate) fn row_text(
     out: &mut [u8],
     at: usize,
     kind: Kind,
@@ -188,7 +188,7 @@ fn captioned(out: &mut [u8], at: usize, caption: &[u8], n: usize) -> usize
 }
 
 // The first line: V, the segments in use of all, and the extra bytes of an entry.
-pub fn head_line(
+pub(crate) fn head_line(
     out: &mut [u8],
     at: usize,
     v: usize,
@@ -207,7 +207,13 @@ pub fn head_line(
 }
 
 // The last line: the blocks of permanent, tentative and empty entries.
-pub fn total_line(out: &mut [u8], at: usize, files: usize, opened: usize, free: usize) -> usize
+pub(crate) fn total_line(
+    out: &mut [u8],
+    at: usize,
+    files: usize,
+    opened: usize,
+    free: usize,
+) -> usize
     requires { ⌜ (files ≤ 65535) × (opened ≤ 65535) × (free ≤ 65535) × (at + 34 ≤ length (now out)) ⌝ }
     ensures { λ r. ⌜ WroteAtMost 34 (now (out .entry)) at (totalBy files opened free) (now (out .exit)) r ⌝ }
 {
@@ -218,7 +224,7 @@ pub fn total_line(out: &mut [u8], at: usize, files: usize, opened: usize, free: 
 }
 
 // The one line of a refusal.
-pub fn refused_line(out: &mut [u8], at: usize, n: usize) -> usize
+pub(crate) fn refused_line(out: &mut [u8], at: usize, n: usize) -> usize
     requires { ⌜ (n ≤ 65535) × (at + 14 ≤ length (now out)) ⌝ }
     ensures { λ r. ⌜ WroteAtMost 14 (now (out .entry)) at (refusedLine n) (now (out .exit)) r ⌝ }
 {

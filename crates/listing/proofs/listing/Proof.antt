@@ -1,0 +1,76 @@
+-- `listing` meets its contract: a bad head has the line of 17 (law `bad-head`); with a good one the words that are listed are the
+-- directory's (laws `loaded`, `good-head`).
+use mathlib.Core.Path.{_≡_, sym, ap, _∙_}
+use mathlib.Core.Bool.{true}
+use native.Mathlib.Omega.{arith}
+use borrow.Author.Tests.{not-true, not-false}
+use lib.ListN.{length}
+use denote.Ref.{now}
+use Rattle.meaning.specs.Listing.{goodHead}
+use Rattle.listing.proofs.Marks.{good-parts}
+use Rattle.listing.proofs.Whole.{loaded, bad-head, good-head}
+use borrow.Author.Needs.{needs}
+use Rattle.listing.proofs.listing.Statement.{statement}
+use Rattle.listing.proofs.listing.Tie as tie
+
+good-head-requires : tie.Need-good-head-requires
+good-head-requires c κs = search needs
+
+refused-line-requires : tie.Need-refused-line-requires
+refused-line-requires c κs = search needs
+
+returns : tie.Need-returns
+returns c =
+    let g = c .before .before .before .good-head in
+    bad-head (now (c .before .before .before .before .before .args .file)) (sym (g .ensures) ∙ not-true (g .result) (c .before .before .if1 .taken)) (c .refused-line .ensures)
+
+volume-in-requires : tie.Need-volume-in-requires
+volume-in-requires c κs =
+    let file = now (c .before .before .before .args .file) in
+    let g = c .before .good-head in
+    let t : goodHead file ≡ true = sym (g .ensures) ∙ not-false (g .result) (c .if1 .left) in
+    good-parts file t .long
+
+slice-aggregate-load-words : tie.Need-slice-aggregate-load-words
+slice-aggregate-load-words c = search needs
+
+load-words-requires : tie.Need-load-words-requires
+load-words-requires c κs =
+    let file = now (c .before .before .before .before .before .args .file) in
+    let g = c .before .before .before .good-head in
+    let t : goodHead file ≡ true = sym (g .ensures) ∙ not-false (g .result) (c .before .before .if1 .left) in
+    let p = good-parts file t in
+    (p .long, p .within)
+
+array-share-prefix-words : tie.Need-array-share-prefix-words
+array-share-prefix-words c = search needs
+
+slice-aggregate-list-words : tie.Need-slice-aggregate-list-words
+slice-aggregate-list-words c =
+    let w = c .before .before .before .load-words .ensures in
+    omega (arith, w .ends, ap length (loaded w))
+
+list-words-requires : tie.Need-list-words-requires
+list-words-requires c κs = search needs
+
+returns-2 : tie.Need-returns-2
+returns-2 c =
+    let file = now (c .before .before .before .before .before .before .before .before .before .before .args .file) in
+    let g = c .before .before .before .before .before .before .before .before .good-head in
+    let t : goodHead file ≡ true = sym (g .ensures) ∙ not-false (g .result) (c .before .before .before .before .before .before .before .if1 .left) in
+    good-head file t (c .before .before .before .before .before .before .volume-in .ensures .is) (loaded (c .before .before .before .before .load-words .ensures)) (c .list-words .ensures)
+
+pub listing-spec : {M : Type 1} → statement M
+listing-spec =
+    tie.close
+    (tie.spec
+    good-head-requires
+    refused-line-requires
+    returns
+    volume-in-requires
+    slice-aggregate-load-words
+    load-words-requires
+    array-share-prefix-words
+    slice-aggregate-list-words
+    list-words-requires
+    returns-2)

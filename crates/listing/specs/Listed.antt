@@ -1,0 +1,11 @@
+-- What the entry routine promises of lent room: the listing of the file from the first byte on, its length as the answer, and every
+-- other byte as it was.
+use Prim.Native.Nat.{ℕ}
+use mathlib.Core.Path.{_≡_}
+use mathlib.Core.List.{List, _++_}
+use lib.ListN.{length, drop}
+use Rattle.meaning.specs.Listing.{listing}
+
+pub record Listed (file before after : List ℕ) (r : ℕ) : Type 0 where
+  pub long : r ≡ length (listing file)
+  pub text : after ≡ listing file ++ drop (length (listing file)) before
