@@ -2,8 +2,8 @@
 use borrow.Author.Needs.{needs}
 use native.Mathlib.Omega.{arith}
 use lib.ListN.{length-set}
-use Rattle.examples.proofs.put_entry.Statement.{statement}
-use Rattle.examples.proofs.put_entry.Tie as tie
+use Rattle.bench.proofs.put_entry.Statement.{statement}
+use Rattle.bench.proofs.put_entry.Tie as tie
 
 mul-d : tie.Need-mul-d
 mul-d c = search needs

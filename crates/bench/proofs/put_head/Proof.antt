@@ -2,8 +2,8 @@
 use borrow.Author.Needs.{needs}
 use native.Mathlib.Omega.{arith}
 use lib.ListN.{length-set}
-use Rattle.examples.proofs.put_head.Statement.{statement}
-use Rattle.examples.proofs.put_head.Tie as tie
+use Rattle.bench.proofs.put_head.Statement.{statement}
+use Rattle.bench.proofs.put_head.Tie as tie
 
 slice-write-d : tie.Need-slice-write-d
 slice-write-d c = search needs

@@ -2,8 +2,8 @@
 use borrow.Author.Needs.{needs}
 use native.Mathlib.Omega.{arith}
 use lib.ListN.{length-set}
-use Rattle.examples.proofs.full.Statement.{statement}
-use Rattle.examples.proofs.full.Tie as tie
+use Rattle.bench.proofs.full.Statement.{statement}
+use Rattle.bench.proofs.full.Tie as tie
 
 put-head-requires : tie.Need-put-head-requires
 put-head-requires c κs = search needs

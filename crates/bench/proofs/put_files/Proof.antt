@@ -3,8 +3,8 @@ use borrow.Author.Needs.{needs}
 use mathlib.Core.Path.{_≡_}
 use Prim.Native.Nat.{_≤_, _-_}
 use lib.ListN.{length}
-use Rattle.examples.proofs.put_files.Statement.{statement}
-use Rattle.examples.proofs.put_files.Tie as tie
+use Rattle.bench.proofs.put_files.Statement.{statement}
+use Rattle.bench.proofs.put_files.Tie as tie
 
 abbrev Inv-loop : tie.InvT-loop
 Inv-loop d₀ i₀ d i = (i ≤ 70) × (length d ≡ length d₀)
