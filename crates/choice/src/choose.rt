@@ -8,7 +8,7 @@ ghost use Prim.Native.Nat.{_≤_, max};
 ghost use lib.ListN.{length};
 ghost use Rattle.meaning.specs.Kinds.{kindOf};
 ghost use Rattle.meaning.specs.Words.{slots, upto};
-ghost use Rattle.directory.specs.Chained.{Chained};
+ghost use Rattle.chain.specs.Chained.{Chained};
 ghost use Rattle.choice.specs.Choice.{Surveyed, Fitted};
 ghost use Rattle.choice.specs.Judged.{Cost, Counted, RoomIn, eligibleBy, noted, considered, surveyIn, fitting, FitIn};
 

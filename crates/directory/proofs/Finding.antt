@@ -17,8 +17,8 @@ use Rattle.segment.specs.declared.finder.Place.{Place}
 use Rattle.segment.specs.declared.finder.Found.{Found}
 use Rattle.segment.specs.declared.finder.Found.the-variants.{At, Nothing}
 use Rattle.segment.proofs.Searching.{place-inside}
-use Rattle.directory.specs.Chained.{Chained}
-use Rattle.directory.proofs.Links.{base, header, part-is, linkAt}
+use Rattle.chain.specs.Chained.{Chained}
+use Rattle.chain.proofs.Links.{base, header, part-is, linkAt}
 
 -- the first of two answers
 abbrev pub orElse : Found → Found → Found

@@ -1,11 +1,1 @@
-pub mod Links
-pub mod Measuring
 pub mod Finding
-pub mod Chains
-pub mod Faults
-pub mod Clashing
-pub mod Buckets
-pub mod InPlace
-pub mod Listing
-pub mod Stepping
-pub mod Walking

@@ -1,7 +1,1 @@
-pub mod Chained
-pub mod Head
-pub mod Measure
 pub mod Find
-pub mod Candidates
-pub mod Buckets
-pub mod Cursor

@@ -2,7 +2,7 @@
 use segment::finder;
 use segment::finder::Found;
 use segment::finder::Key;
-ghost use Rattle.directory.specs.Chained.{Chained};
+ghost use Rattle.chain.specs.Chained.{Chained};
 ghost use Rattle.directory.specs.Find.{FoundEntry};
 
 // The segments are asked one after the other, in chain order, each as a part of the directory.

@@ -1,8 +1,3 @@
-// The whole directory: the tests that a sound one passes, rule by rule, and the finder of an entry over its chain. Each test
-// presumes those before it: what they promise is the record `Chained`, which code that reads on asks for.
-pub mod chain;
-pub mod cursor;
+// The whole directory: the soundness check, which is the tests of its chain and of clashes in order, and the finder of an entry over the chain.
 pub mod find;
-pub mod head;
 pub mod sound;
-pub mod twice;

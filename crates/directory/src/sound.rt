@@ -1,7 +1,5 @@
 // The soundness check: rules 1 to 6 in order, and the smallest number.
-use crate::chain;
-use crate::head;
-use crate::twice;
+use chain::head;
 ghost use mathlib.Core.Path.{_≡_};
 ghost use Rattle.meaning.specs.Sound.{fault};
 
@@ -22,7 +20,7 @@ pub fn fault_of(d: &[u16], v: usize) -> u16
     if number != 0 {
         return number;
     }
-    if twice::entries_clash(d) {
+    if clashes::entries_clash(d) {
         return 6;
     }
     0

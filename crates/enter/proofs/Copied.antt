@@ -12,8 +12,8 @@ use Rattle.meaning.specs.Sound.{fault, bad5}
 use Rattle.meaning.specs.Enter.{tidied}
 use Rattle.laws.proofs.Rule5.{rule1-holds}
 use Rattle.laws.proofs.Soundness.{sound}
-use Rattle.directory.specs.Chained.{Chained}
-use Rattle.directory.proofs.Chains.{fault-chained}
+use Rattle.chain.specs.Chained.{Chained}
+use Rattle.chain.proofs.Chains.{fault-chained}
 use Rattle.tidy.specs.Tidied.{Small, TidiedFrom}
 use Rattle.tidy.proofs.InPlace.{tidied-kept}
 use Rattle.tidy.proofs.AfterTidy.{sums-small}

@@ -20,8 +20,8 @@ use Rattle.laws.proofs.Anew.{ends-within}
 use Rattle.laws.proofs.TidiedSound.{tidied-sound, tidied-chain}
 use Rattle.laws.proofs.Fine.{flag}
 use Rattle.laws.proofs.Areas as law
-use Rattle.directory.specs.Chained.{Chained}
-use Rattle.directory.proofs.Chains.{fault-chained}
+use Rattle.chain.specs.Chained.{Chained}
+use Rattle.chain.proofs.Chains.{fault-chained}
 use Rattle.tidy.proofs.InPlace.{tidied-kept}
 use Rattle.tidy.proofs.AfterTidy.{slots-same}
 use Rattle.choice.specs.declared.choose.AreaPlace.{AreaPlace}

@@ -13,12 +13,12 @@ use borrow.Author.Tests.{lt-ltb, le-ltb}
 use Rattle.meaning.specs.Words.{Entry, blocks, chunks, slots, upto, total, linkOf, firstOf, slotCount}
 use Rattle.meaning.specs.Requests.{render}
 use Rattle.insert.specs.declared.place.Spot.{Spot}
-use Rattle.insert.specs.Anew.{gapWords, insertedWords, renderedWords, Inserting}
-use Rattle.insert.specs.Halves.{KeptOf}
+use Rattle.render.specs.Anew.{gapWords, insertedWords, renderedWords, Inserting}
+use Rattle.render.specs.Halves.{KeptOf}
 use Rattle.insert.specs.Spots.{Slot, Half, wholeSegment, oldSegment, freshSegment}
-use Rattle.insert.proofs.Chunks.{first-slots, entries-slots, few-entries, drop-chunks, at-chunks}
-use Rattle.insert.proofs.Counting.{slots-room}
-use Rattle.insert.proofs.Parts.{Part, part-inserting, part-room, part-is, plain-is, whole-room, half-room}
+use Rattle.render.proofs.Chunks.{first-slots, entries-slots, few-entries, drop-chunks, at-chunks}
+use Rattle.render.proofs.Counting.{slots-room}
+use Rattle.render.proofs.Parts.{Part, part-inserting, part-room, part-is, plain-is, whole-room, half-room}
 
 -- the entries of a segment, and how many
 abbrev entriesIn : List ℕ → ℕ → List Entry

@@ -1,6 +1,2 @@
-pub mod Chunks
-pub mod Anew
-pub mod Counting
-pub mod Parts
 pub mod Halving
 pub mod Placing

@@ -13,16 +13,16 @@ use borrow.Author.Tests.{le-leb, lt-leb, ltb-true}
 use Rattle.meaning.specs.Words.{Entry, segment, slotWords, slotCount, capacity, slots, upto, entries, blocks, highest, segments, firstOf, total}
 use Rattle.meaning.specs.Requests.{entryOf, flat, render}
 use Rattle.meaning.specs.Enter.{withSegment, headerOf, kept, unsplit, split, entered, hasRoom, Area}
-use Rattle.directory.specs.Chained.{Chained}
-use Rattle.insert.specs.declared.render.Tentative.{Tentative}
+use Rattle.chain.specs.Chained.{Chained}
+use Rattle.render.specs.declared.Tentative.{Tentative}
 use Rattle.insert.specs.declared.place.Spot.{Spot}
-use Rattle.insert.specs.Anew.{newEntry}
-use Rattle.insert.specs.Halves.{Counted, KeptOf}
+use Rattle.render.specs.Anew.{newEntry}
+use Rattle.render.specs.Halves.{Counted, KeptOf}
 use Rattle.insert.specs.Spots.{areaOf, Chosen, Splittable, Enterable, Slot, Half, wholeSegment, oldSegment, freshSegment}
 use Rattle.copying.proofs.Writes.{pasted}
-use Rattle.insert.proofs.Chunks.{few-entries}
-use Rattle.insert.proofs.Counting.{slots-room}
-use Rattle.insert.proofs.Anew.{entry-take, entry-length}
+use Rattle.render.proofs.Chunks.{few-entries}
+use Rattle.render.proofs.Counting.{slots-room}
+use Rattle.render.proofs.Anew.{entry-take, entry-length}
 
 -- a segment has 512 words
 flat-long : (es : List Entry) (t : List ℕ) → length t ≤ length (flat es t)

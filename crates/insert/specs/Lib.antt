@@ -1,3 +1,1 @@
-pub mod Anew
-pub mod Halves
 pub mod Spots

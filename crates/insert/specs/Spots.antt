@@ -8,9 +8,9 @@ use lib.Dec.{ltb}
 use Rattle.meaning.specs.Words.{Entry, blocks, segments, segment, linkOf, firstOf, highest, slotWords, slots, upto, entries, total}
 use Rattle.meaning.specs.Requests.{render}
 use Rattle.meaning.specs.Enter.{Area, inserted, hasRoom}
-use Rattle.directory.specs.Chained.{Chained}
+use Rattle.chain.specs.Chained.{Chained}
 use Rattle.insert.specs.declared.place.Spot.{Spot}
-use Rattle.insert.specs.Halves.{KeptOf}
+use Rattle.render.specs.Halves.{KeptOf}
 
 -- the area of a spot: enter asks the area that it chose for nothing else
 abbrev pub areaOf : Spot → Area

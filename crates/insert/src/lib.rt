@@ -1,5 +1,2 @@
-// Enter, on a directory known to be sound. Throughout, `width` is how many words a slot has, 7 + E, and `word` the place in the
-// segment where a slot begins.
-pub mod measure;
+// The new entry put into its area, on a directory known to be sound: in one segment, or after a split where slots lack.
 pub mod place;
-pub mod render;

@@ -1,16 +1,15 @@
 // The new entry placed in the area that was chosen: inserted into its segment, or into a half of it after a split. The directory is
 // a tidied copy that the caller throws away if it refuses, so it is written in place.
-use crate::measure;
-use crate::render;
-use crate::render::Tentative;
 use copying::copy_words;
+use render::Tentative;
+use render::measure;
 ghost use mathlib.Core.Path.{_≡_};
 ghost use Prim.Native.Nat.{_+_, _≤_, _<_};
 ghost use lib.ListN.{length};
 ghost use Rattle.meaning.specs.Words.{slotWords, slotCount, capacity, slots, upto, entries};
 ghost use Rattle.meaning.specs.Enter.{unsplit, split, entered};
-ghost use Rattle.directory.specs.Chained.{Chained};
-ghost use Rattle.insert.specs.Anew.{newEntry};
+ghost use Rattle.chain.specs.Chained.{Chained};
+ghost use Rattle.render.specs.Anew.{newEntry};
 ghost use Rattle.insert.specs.Spots.{areaOf, Chosen, Slot, Half, wholeSegment, oldSegment, freshSegment, Splittable, Enterable};
 
 // The area chosen: its segment, how many of the segment's entries stand before it, the word where its slot begins, and its cost.

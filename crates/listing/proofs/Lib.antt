@@ -1,7 +1,3 @@
-pub mod Writes
-pub mod Digits
-pub mod Shown
-pub mod Parts
 pub mod Marks
 pub mod Loaded
 pub mod Sums

@@ -8,8 +8,8 @@ use native.Mathlib.Nat.{zero-add}
 use lib.ListN.{length, getD, take, drop, set, length-drop}
 use lib.Seq.{getD-drop}
 use Rattle.meaning.specs.Listing.{wordAt, wordsIn, headBytes, directoryIn}
-use Rattle.listing.specs.Wrote.{Wrote}
-use Rattle.listing.proofs.Writes.{copy-none, copy-more, copy-all}
+use Rattle.lines.specs.Wrote.{Wrote}
+use Rattle.lines.proofs.Writes.{copy-none, copy-more, copy-all}
 
 words-long : (bs : List ℕ) → length (wordsIn bs) ≡ length bs / 2
 unfolding wordsIn

@@ -22,17 +22,17 @@ use Rattle.laws.specs.Order.{All}
 use Rattle.laws.proofs.Alls.{all-append}
 use Rattle.laws.proofs.Soundness.{slotsOf, Readable, sound}
 use Rattle.laws.proofs.Fine.{Okay, free, used, Fine, slots-fine}
-use Rattle.directory.specs.Cursor.{firstSlot, rowsAt, stepAt}
-use Rattle.directory.specs.declared.cursor.Cursor.{Cursor}
-use Rattle.directory.specs.declared.cursor.Seen.{Seen}
-use Rattle.directory.specs.declared.cursor.Step.the-variants.{Entry as Given, End}
-use Rattle.directory.proofs.Chains.{fault-chained}
-use Rattle.directory.proofs.Walking.{On, on-stands, begins, from-start, passed, went, ended}
-use Rattle.listing.specs.Wrote.{Wrote, WroteAtMost}
-use Rattle.listing.specs.Bounds.{Spelled}
+use Rattle.cursor.specs.Cursor.{firstSlot, rowsAt, stepAt}
+use Rattle.cursor.specs.declared.Cursor.{Cursor}
+use Rattle.cursor.specs.declared.Seen.{Seen}
+use Rattle.cursor.specs.declared.Step.the-variants.{Entry as Given, End}
+use Rattle.chain.proofs.Chains.{fault-chained}
+use Rattle.cursor.proofs.Walking.{On, on-stands, begins, from-start, passed, went, ended}
+use Rattle.lines.specs.Wrote.{Wrote, WroteAtMost}
+use Rattle.lines.specs.Bounds.{Spelled}
 use Rattle.listing.specs.Rows.{IsSound, Shown, seenText}
-use Rattle.listing.proofs.Writes.{none, both}
-use Rattle.listing.proofs.Parts.{row-by}
+use Rattle.lines.proofs.Writes.{none, both}
+use Rattle.lines.proofs.Parts.{row-by}
 
 -- the name of an entry that may stand spells
 abbrev Named : Entry → Type 0

@@ -16,11 +16,11 @@ use Rattle.meaning.specs.Listing.{blocksOf}
 use Rattle.laws.proofs.Rule5.{rule1-holds}
 use Rattle.laws.proofs.Soundness.{sound, data-blocks}
 use Rattle.laws.proofs.Rows.{entry-of, entries-rows}
-use Rattle.directory.specs.Cursor.{firstSlot, rowsAt, stepAt}
-use Rattle.directory.specs.declared.cursor.Cursor.{Cursor}
-use Rattle.directory.specs.declared.cursor.Seen.{Seen}
-use Rattle.directory.specs.declared.cursor.Step.the-variants.{Entry as Given, End as Done}
-use Rattle.directory.proofs.Walking.{On, begins, from-start, Went, went, ended}
+use Rattle.cursor.specs.Cursor.{firstSlot, rowsAt, stepAt}
+use Rattle.cursor.specs.declared.Cursor.{Cursor}
+use Rattle.cursor.specs.declared.Seen.{Seen}
+use Rattle.cursor.specs.declared.Step.the-variants.{Entry as Given, End as Done}
+use Rattle.cursor.proofs.Walking.{On, begins, from-start, Went, went, ended}
 use Rattle.listing.specs.Rows.{IsSound, Counted, TotalsOf}
 use Rattle.listing.specs.declared.rows.Totals.{Totals}
 

@@ -13,14 +13,14 @@ use Rattle.meaning.specs.Words.{segments, highest, extraBytesOf, rows, allEntri
 use Rattle.meaning.specs.Sound.{fault}
 use Rattle.meaning.specs.Listing.{volumeIn, directoryIn, goodHead, rowsText, refusedLine, soundText, textBy, listing}
 use Rattle.walks.proofs.Heads.{sized, headed}
-use Rattle.directory.proofs.Faults.{first-three}
-use Rattle.listing.specs.Wrote.{Wrote, WroteAtMost}
-use Rattle.listing.specs.Pieces.{headBy, totalBy}
+use Rattle.chain.proofs.Faults.{first-three}
+use Rattle.lines.specs.Wrote.{Wrote, WroteAtMost}
+use Rattle.lines.specs.Pieces.{headBy, totalBy}
 use Rattle.listing.specs.Rows.{TotalsOf}
 use Rattle.listing.specs.Listed.{Listed}
 use Rattle.listing.specs.declared.rows.Totals.{Totals}
-use Rattle.listing.proofs.Writes.{both}
-use Rattle.listing.proofs.Parts.{head-by, total-by}
+use Rattle.lines.proofs.Writes.{both}
+use Rattle.lines.proofs.Parts.{head-by, total-by}
 
 -- what the first line shows
 pub record HeadFits (v : ℕ) (d : List ℕ) : Type 0 where

@@ -1,5 +1,3 @@
-pub mod Wrote
-pub mod Pieces
 pub mod Bounds
 pub mod Rows
 pub mod Listed

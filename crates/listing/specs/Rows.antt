@@ -8,9 +8,9 @@ use Rattle.meaning.specs.Kinds.{isTentative, isEmpty, isPermanent}
 use Rattle.meaning.specs.Words.{Entry}
 use Rattle.meaning.specs.Sound.{fault}
 use Rattle.meaning.specs.Listing.{blocksOf}
-use Rattle.directory.specs.declared.cursor.Seen.{Seen}
-use Rattle.listing.specs.Bounds.{Spelled}
-use Rattle.listing.specs.Pieces.{rowBy}
+use Rattle.cursor.specs.declared.Seen.{Seen}
+use Rattle.lines.specs.Bounds.{Spelled}
+use Rattle.lines.specs.Pieces.{rowBy}
 use Rattle.listing.specs.declared.rows.Totals.{Totals}
 
 -- a directory that is sound for some V

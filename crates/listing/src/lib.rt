@@ -1,7 +1,6 @@
 // The listing (document 01, "The listing"): a head file's bytes in, its text out.
 mod head;
 mod rows;
-mod text;
 mod words;
 
 use directory::sound;
@@ -10,7 +9,7 @@ ghost use Prim.Native.Nat.{_≤_};
 ghost use lib.ListN.{length};
 ghost use Rattle.meaning.specs.Sound.{fault};
 ghost use Rattle.meaning.specs.Listing.{soundText, textBy};
-ghost use Rattle.listing.specs.Wrote.{WroteAtMost};
+ghost use Rattle.lines.specs.Wrote.{WroteAtMost};
 ghost use Rattle.listing.specs.Listed.{Listed};
 
 // The longest listing: 49 bytes for the first line, 79,236 for the rows, 34 for the last line.
@@ -21,10 +20,10 @@ fn list_sound(out: &mut [u8], d: &[u16], v: usize) -> usize
     requires { ⌜ (fault v (now d) ≡ 0) × (79319 ≤ length (now out)) ⌝ }
     ensures { λ r. ⌜ WroteAtMost 79319 (now (out .entry)) 0 (soundText v (now (d .entry))) (now (out .exit)) r ⌝ }
 {
-    let mut next = text::head_line(out, 0, v, d[2] as usize, d.len() / 512, d[3] as usize);
+    let mut next = lines::head_line(out, 0, v, d[2] as usize, d.len() / 512, d[3] as usize);
     next = rows::put_rows(out, next, d);
     let totals = rows::total_blocks(d);
-    text::total_line(out, next, totals.files, totals.opened, totals.free)
+    lines::total_line(out, next, totals.files, totals.opened, totals.free)
 }
 
 // The listing of any words: that of a sound directory, or the line of the fault's number.
@@ -34,7 +33,7 @@ fn list_words(out: &mut [u8], d: &[u16], v: usize) -> usize
 {
     let number = sound::fault_of(d, v);
     if number != 0 {
-        return text::refused_line(out, 0, number as usize);
+        return lines::refused_line(out, 0, number as usize);
     }
     list_sound(out, d, v)
 }
@@ -44,7 +43,7 @@ pub fn listing(file: &[u8], out: &mut [u8; ROOM]) -> usize
     ensures { λ r. ⌜ Listed (now (file .entry)) (now (out .entry)) (now (out .exit)) r ⌝ }
 {
     if !head::good_head(file) {
-        return text::refused_line(out, 0, 17);
+        return lines::refused_line(out, 0, 17);
     }
     let v = head::volume_in(file);
     let mut words = [0u16; 15872];

@@ -1,15 +1,13 @@
 // What the listing shows of the entries: a row for each, and the totals in blocks. Each is one walk with the cursor, which needs no
 // word tested again: the directory is sound by then.
-use crate::text;
-use directory::cursor;
-use directory::cursor::Seen;
-use directory::cursor::Step;
+use cursor::Seen;
+use cursor::Step;
 use meaning::Kind;
 ghost use Prim.Native.Nat.{_+_, _≤_};
 ghost use lib.ListN.{length};
 ghost use Rattle.meaning.specs.Words.{rows, allEntries};
 ghost use Rattle.meaning.specs.Listing.{rowsText};
-ghost use Rattle.listing.specs.Wrote.{WroteAtMost};
+ghost use Rattle.lines.specs.Wrote.{WroteAtMost};
 ghost use Rattle.listing.specs.Rows.{IsSound, Shown, seenText, Counted, TotalsOf};
 
 // The blocks of permanent, of tentative and of empty entries.
@@ -25,7 +23,7 @@ fn put_row(out: &mut [u8], at: usize, seen: Seen) -> usize
     ensures { λ r. ⌜ WroteAtMost 36 (now (out .entry)) at (seenText seen) (now (out .exit)) r ⌝ }
 {
     let kind = seen.kind;
-    text::row_text(
+    lines::row_text(
         out,
         at,
         kind,

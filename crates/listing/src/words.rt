@@ -3,7 +3,7 @@ use crate::head;
 ghost use Prim.Native.Nat.{_+_, _*_, _≤_};
 ghost use lib.ListN.{length};
 ghost use Rattle.meaning.specs.Listing.{headBytes, directoryIn};
-ghost use Rattle.listing.specs.Wrote.{Wrote};
+ghost use Rattle.lines.specs.Wrote.{Wrote};
 
 // The words after the head, low byte first, into the first of the lent words. Answers how many they are.
 pub(crate) fn load_words(file: &[u8], words: &mut [u16]) -> usize

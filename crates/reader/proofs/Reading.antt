@@ -11,11 +11,11 @@ use lib.Dec.{eqb}
 use borrow.Author.Tests.{eq-eqb, ne-eqb, eqb-true}
 use Rattle.meaning.specs.Words.{Row, rows}
 use Rattle.meaning.specs.Sound.{fault}
-use Rattle.directory.specs.Cursor.{past, firstSlot, rowsAt, entryStep, stepOf, stepAt}
-use Rattle.directory.specs.declared.cursor.Cursor.{Cursor}
-use Rattle.directory.specs.declared.cursor.Seen.{Seen}
-use Rattle.directory.specs.declared.cursor.Step.the-variants.{Entry, End}
-use Rattle.directory.proofs.Walking.{On, begins, from-start, step-on, passed}
+use Rattle.cursor.specs.Cursor.{past, firstSlot, rowsAt, entryStep, stepOf, stepAt}
+use Rattle.cursor.specs.declared.Cursor.{Cursor}
+use Rattle.cursor.specs.declared.Seen.{Seen}
+use Rattle.cursor.specs.declared.Step.the-variants.{Entry, End}
+use Rattle.cursor.proofs.Walking.{On, begins, from-start, step-on, passed}
 use Rattle.reader.specs.Read.{numberOf, readRows, readStep, readAt, pastStep, skipped, placeAfter, rowAt}
 use Rattle.reader.specs.declared.Read.{Read}
 use Rattle.reader.specs.declared.Read.the-variants.{Refused}

@@ -7,10 +7,10 @@ use lib.Dec.{eqb}
 use denote.Ref.{RefT, now}
 use Rattle.meaning.specs.Words.{Row, rows}
 use Rattle.meaning.specs.Sound.{fault}
-use Rattle.directory.specs.Cursor.{seenOf, firstSlot, stepAt}
-use Rattle.directory.specs.declared.cursor.Cursor.{Cursor}
-use Rattle.directory.specs.declared.cursor.Step.{Step}
-use Rattle.directory.specs.declared.cursor.Step.the-variants as step
+use Rattle.cursor.specs.Cursor.{seenOf, firstSlot, stepAt}
+use Rattle.cursor.specs.declared.Cursor.{Cursor}
+use Rattle.cursor.specs.declared.Step.{Step}
+use Rattle.cursor.specs.declared.Step.the-variants as step
 use Rattle.reader.specs.declared.Reader.{Reader}
 use Rattle.reader.specs.declared.Read.{Read}
 use Rattle.reader.specs.declared.Read.the-variants.{Entry, End, Refused}

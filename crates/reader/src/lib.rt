@@ -1,10 +1,9 @@
 // A reader that walks the entries: it holds the borrowed directory and its place. The borrow checker covers no function over such
 // a struct, so each is proved by hand and kept thin: it takes the struct apart and leaves the work to a covered function on the
 // slice. `row` stands above them with plain parameters, for every other caller.
-use directory::cursor;
-use directory::cursor::Cursor;
-use directory::cursor::Seen;
-use directory::cursor::Step;
+use cursor::Cursor;
+use cursor::Seen;
+use cursor::Step;
 use directory::sound;
 ghost use mathlib.Core.Path.{_≡_};
 ghost use Rattle.reader.specs.Read.{readAt, placeAfter, opened, movedBy, rowAt};

@@ -4,36 +4,12 @@
 use mathlib.Core.Path.{_≡_, sym, _∙_}
 use denote.Ref.{now}
 use Rattle.requests.proofs.fault.Reads as fault
-use Rattle.requests.proofs.lookup.Reads as lookup
-use Rattle.requests.proofs.delete.Reads as delete
-use Rattle.requests.proofs.abandon.Reads as abandon
-use Rattle.requests.proofs.rename.Reads as rename
-use Rattle.requests.proofs.close.Reads as close
 use Rattle.requests.proofs.enter.Reads as enter
 use Rattle.requests.proofs.fresh.Reads as fresh
 use Rattle.requests.proofs.serve.Reads as serve
 
 pub fault-determined : (κs : _) (a : _) (r r′ : _) (s s′ : _) → fault.Post κs a r s → fault.Post κs a r′ s′ → r ≡ r′
 fault-determined κs a r r′ s s′ p q = p ∙ sym q
-
-pub lookup-determined : (κs : _) (a : _) (r r′ : _) (s s′ : _) → lookup.Post κs a r s → lookup.Post κs a r′ s′ → r ≡ r′
-lookup-determined κs a r r′ s s′ p q = p ∙ sym q
-
-pub delete-determined : (κs : _) (a : _) (r r′ : _) (s s′ : _) → delete.Post κs a r s → delete.Post κs a r′ s′
-    → (r ≡ r′) × (now (s .0) ≡ now (s′ .0))
-delete-determined κs a r r′ s s′ p q = (p .answer ∙ sym (q .answer), p .words ∙ sym (q .words))
-
-pub abandon-determined : (κs : _) (a : _) (r r′ : _) (s s′ : _) → abandon.Post κs a r s → abandon.Post κs a r′ s′
-    → (r ≡ r′) × (now (s .0) ≡ now (s′ .0))
-abandon-determined κs a r r′ s s′ p q = (p .answer ∙ sym (q .answer), p .words ∙ sym (q .words))
-
-pub rename-determined : (κs : _) (a : _) (r r′ : _) (s s′ : _) → rename.Post κs a r s → rename.Post κs a r′ s′
-    → (r ≡ r′) × (now (s .0) ≡ now (s′ .0))
-rename-determined κs a r r′ s s′ p q = (p .answer ∙ sym (q .answer), p .words ∙ sym (q .words))
-
-pub close-determined : (κs : _) (a : _) (r r′ : _) (s s′ : _) → close.Post κs a r s → close.Post κs a r′ s′
-    → (r ≡ r′) × (now (s .0) ≡ now (s′ .0))
-close-determined κs a r r′ s s′ p q = (p .answer ∙ sym (q .answer), p .words ∙ sym (q .words))
 
 pub enter-determined : (κs : _) (a : _) (r r′ : _) (s s′ : _) → enter.Post κs a r s → enter.Post κs a r′ s′
     → (r ≡ r′) × (now (s .0) ≡ now (s′ .0))

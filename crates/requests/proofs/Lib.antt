@@ -1,6 +1,3 @@
-pub mod Doors
-pub mod Finals
-pub mod Closes
-pub mod Determined
 pub mod Enters
 pub mod Serving
+pub mod Determined

@@ -13,7 +13,7 @@ use Rattle.meaning.specs.Words.{segments, firstData, segment, extraBytesOf, fir
 use Rattle.meaning.specs.Words.{entries, total, chain}
 use Rattle.meaning.specs.Sound.{times, filled, bad5}
 use Rattle.walks.proofs.Tidied.{tidy-total, entries-long}
-use Rattle.directory.specs.Chained.{Chained}
+use Rattle.chain.specs.Chained.{Chained}
 use Rattle.tidy.specs.Tidied.{Small, TidyKept}
 use Rattle.tidy.proofs.Headers.{Framed, word-kept, highest-kept, slots-kept, used-once}
 

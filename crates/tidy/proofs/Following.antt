@@ -13,7 +13,7 @@ use Rattle.meaning.specs.Words.{segment, linkOf, highest, slotWords, entries, t
 use Rattle.meaning.specs.Enter.{tidiedAt, tidied}
 use Rattle.walks.specs.Links.{linked}
 use Rattle.walks.proofs.Tidied.{tidy-total, entries-long}
-use Rattle.directory.specs.Chained.{Chained}
+use Rattle.chain.specs.Chained.{Chained}
 use Rattle.tidy.specs.Tidied.{Tidyable, tidiedWords, Small, TidiedFrom}
 use Rattle.tidy.proofs.Replaced.{head-word, partOf, part-is, part-put, segment-length}
 use Rattle.tidy.proofs.Headers.{step, Framed, framed-self, framed-on, linked-kept, chain-kept, highest-kept, slots-kept}

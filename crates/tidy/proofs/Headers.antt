@@ -16,7 +16,7 @@ use Rattle.meaning.specs.Words.{segment, totalOf, linkOf, extraBytesOf, highest
 use Rattle.meaning.specs.Sound.{any, times, eachOnce, differs, bad3}
 use Rattle.walks.specs.Links.{linked}
 use Rattle.walks.proofs.Linked.{bad3-walk}
-use Rattle.directory.specs.Chained.{Chained}
+use Rattle.chain.specs.Chained.{Chained}
 use Rattle.tidy.proofs.Replaced.{head-word}
 
 -- what the links say of the next segment

@@ -15,7 +15,7 @@ use Rattle.meaning.specs.Sound.{times}
 use Rattle.meaning.specs.Requests.{render}
 use Rattle.meaning.specs.Enter.{tidy, withSegment, headerOf, tidiedAt, tidied}
 use Rattle.walks.specs.Links.{linked}
-use Rattle.directory.specs.Chained.{Chained}
+use Rattle.chain.specs.Chained.{Chained}
 use Rattle.tidy.specs.Tidied.{tidiedWords, TidyKept}
 use Rattle.tidy.proofs.Anew.{words-length, words-header, words-entries}
 use Rattle.tidy.proofs.Replaced.{segment-length, replaced-self, replaced-length, replaced-same, replaced-other}

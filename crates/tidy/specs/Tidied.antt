@@ -8,7 +8,7 @@ use lib.Dec.{eqb, ltb}
 use Rattle.meaning.specs.Words.{segment, highest, slots, upto, entries, total, chain}
 use Rattle.meaning.specs.Requests.{flat, render}
 use Rattle.meaning.specs.Enter.{tidy, tidied}
-use Rattle.directory.specs.Chained.{Chained}
+use Rattle.chain.specs.Chained.{Chained}
 use Rattle.copying.specs.Written.{Written}
 
 -- the words g of a segment with its entries tidied, in slots of w words; where they do not become fewer, as they were

@@ -7,7 +7,7 @@ ghost use mathlib.Core.Path.{_≡_};
 ghost use Prim.Native.Nat.{_+_, _≤_};
 ghost use lib.ListN.{length, take, drop, set};
 ghost use Rattle.meaning.specs.Words.{lengthWord};
-ghost use Rattle.directory.specs.Chained.{Chained};
+ghost use Rattle.chain.specs.Chained.{Chained};
 ghost use Rattle.copying.specs.Written.{Written};
 ghost use Rattle.tidy.specs.OpenRun.{runOf, sumOf, runAfter, leftOf, outOf, Placed, Finished};
 ghost use Rattle.tidy.specs.Tidied.{Tidyable, TidyWritten, tidiedWords, Small, TidiedFrom};

@@ -56,7 +56,7 @@ use Rattle.meaning.specs.declared.Request.{Request}
 use Rattle.meaning.specs.declared.Answer.{Answer}
 use Rattle.meaning.specs.Batch.{batch}
 use Rattle.meaning.specs.Batch as meaning
-use Rattle.requests.specs.Door as door
+use Rattle.door.specs.Door as door
 use Rattle.batch.specs.Ran.{Ran}
 use Rattle.batch.proofs.Again.{LentAgain, lends-again, comes-back}
 use Rattle.batch.proofs.Fold.{noAnswer, noRequest, Turn, start, next, ran, refused}

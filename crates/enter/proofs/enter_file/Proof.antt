@@ -8,7 +8,7 @@ use Rattle.meaning.specs.Words.{chain}
 use Rattle.meaning.specs.Answers.{refuse}
 use Rattle.meaning.specs.Enter.{tidied}
 use Rattle.laws.proofs.TidiedSound.{tidied-sound}
-use Rattle.directory.proofs.Chains.{fault-chained}
+use Rattle.chain.proofs.Chains.{fault-chained}
 use Rattle.enter.proofs.Copied.{copy-long, part-long}
 use Rattle.enter.proofs.Placing.{answer-of, words-of}
 use Rattle.enter.proofs.Surveyed.{short, slotless, roomy}

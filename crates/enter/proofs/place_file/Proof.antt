@@ -11,7 +11,7 @@ use Rattle.meaning.specs.Words.{chain}
 use Rattle.meaning.specs.Answers.{refuse, success}
 use Rattle.meaning.specs.Enter.{tidied}
 use Rattle.laws.proofs.TidiedSound.{tidied-sound}
-use Rattle.directory.proofs.Chains.{fault-chained}
+use Rattle.chain.proofs.Chains.{fault-chained}
 use Rattle.tidy.proofs.InPlace.{tidied-kept}
 use Rattle.copying.proofs.Writes.{copied-whole}
 use Rattle.choice.specs.Choice.{Fitted}

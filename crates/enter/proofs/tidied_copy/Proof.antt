@@ -4,7 +4,7 @@ use native.Mathlib.Omega.{arith}
 use mathlib.Core.Path.{_∙_, sym, ap}
 use denote.Ref.{now}
 use lib.ListN.{length}
-use Rattle.directory.proofs.Chains.{fault-chained}
+use Rattle.chain.proofs.Chains.{fault-chained}
 use Rattle.enter.proofs.Copied.{copied, tidyable, tidied-part}
 use Rattle.enter.proofs.tidied_copy.Statement.{statement}
 use Rattle.enter.proofs.tidied_copy.Tie as tie

@@ -41,8 +41,8 @@ use denote.Triple.Table.{entered, cited}
 use denote.Triple.Walked.{says, Stays, stay-none, walkOf, goes-none, Walks, ends-at, walked, walk-meets}
 use denote.Exit.{yes}
 use denote.Triple.Clauses.{ensured, lasts}
-use Rattle.directory.proofs.cursor.Cursor as K
-use Rattle.directory.proofs.cursor.Cursor.Laws as K′
+use Rattle.cursor.proofs.Cursor as K
+use Rattle.cursor.proofs.Cursor.Laws as K′
 use Rattle.reader.specs.Read.{readAt}
 use Rattle.reader.specs.declared.Reader.{Reader}
 use Rattle.reader.specs.declared.Read.{Read}

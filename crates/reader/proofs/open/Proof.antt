@@ -41,14 +41,14 @@ use denote.Triple.Walked.{says, Stays, stay-none, stay-none-slice, walkOf, goes-
 use denote.Exit.{yes}
 use denote.Triple.Clauses.{ensured, lasts}
 use Rattle.meaning.specs.Sound.{fault}
-use Rattle.directory.specs.Cursor.{firstSlot}
-use Rattle.directory.specs.declared.cursor.Cursor.{Cursor}
-use Rattle.directory.proofs.cursor.Cursor as K
-use Rattle.directory.proofs.cursor.Cursor.Laws as K′
-use Rattle.directory.proofs.cursor.start as start
-use Rattle.directory.proofs.cursor.start.Symbol as start-def
-use Rattle.directory.proofs.cursor.start.Symbol.{name as #directory·start}
-use Rattle.directory.proofs.cursor.start.Met as start-thm
+use Rattle.cursor.specs.Cursor.{firstSlot}
+use Rattle.cursor.specs.declared.Cursor.{Cursor}
+use Rattle.cursor.proofs.Cursor as K
+use Rattle.cursor.proofs.Cursor.Laws as K′
+use Rattle.cursor.proofs.start as start
+use Rattle.cursor.proofs.start.Symbol as start-def
+use Rattle.cursor.proofs.start.Symbol.{name as #cursor·start}
+use Rattle.cursor.proofs.start.Met as start-thm
 use Rattle.directory.proofs.sound.fault_of as fault-of
 use Rattle.directory.proofs.sound.fault_of.Symbol as fault-of-def
 use Rattle.directory.proofs.sound.fault_of.Symbol.{name as #directory·fault-of}
@@ -146,7 +146,7 @@ module _ {M : Type 1} (𝓤 : URA M) (H : Heap 𝓤) (A : Atoms 𝓤) (W : Given
       nothing ! $ owned ! u16 (Is u16) (uint-makes 𝓤 H A W w16) m _ (refl, m-fits) $ fjoin ! $ owned ! K.the-row (Is K.the-row) (LL.makes K.the-type K′.the-plain 𝓤 H A) c _ is $ fjoin ! $
       move ! (1 ∷ 0 ∷ []) $ fjoin ! $ by ! (own-shut 𝓤 H A W (T.the-type α) (T′.the-laws α) (s, (c, (m, tt))))
 
-  module _ (C : Calls 𝓤 H) (Λ : Loops 𝓤 H) (fm : FmC 𝓤 H (W .laws) C) (known-start : Triple 𝓤 (C #directory·start) (Start 𝓤 H A mem run)) (known-fault : Triple 𝓤 (C #directory·fault-of) (FaultOf 𝓤 H A mem run)) where
+  module _ (C : Calls 𝓤 H) (Λ : Loops 𝓤 H) (fm : FmC 𝓤 H (W .laws) C) (known-start : Triple 𝓤 (C #cursor·start) (Start 𝓤 H A mem run)) (known-fault : Triple 𝓤 (C #directory·fault-of) (FaultOf 𝓤 H A mem run)) where
     walk : Is (ShrSlice (named 0) κ u16) s (v ∷ []) → ent 𝓤 (onEntry 𝓤 H A opens.signature κs (q, tt) (s, (n, tt)) vals) (WpFn 𝓤 H C Λ code.function (v ∷ vint w64 n ∷ []) Post)
     walk p =
         qed W (raw (onEntry 𝓤 H A opens.signature κs (q, tt) (s, (n, tt)) vals) ∷ []) ∵ enter ! C Λ code.function (v ∷ vint w64 n ∷ []) _ $
@@ -172,13 +172,13 @@ module _ {M : Type 1} (𝓤 : URA M) (H : Heap 𝓤) (A : Atoms 𝓤) (W : Given
         move ! (11 ∷ 12 ∷ []) $ free1 ! $ move ! (9 ∷ 10 ∷ []) $ free1 ! $ move ! (7 ∷ 8 ∷ []) $ free1 ! $ move ! (5 ∷ 6 ∷ []) $ free1 ! $ move ! (3 ∷ 4 ∷ []) $ free1 ! $ free0 ! $ drop ! $ by ! (exits c m e f (at-own c u is) (is′ .1)))))))))))))))
 
 module _ {M : Type 1} (𝓤 : URA M) (H : Heap 𝓤) (A : Atoms 𝓤) (W : Given 𝓤 H A) (mem : Memory → SProp 𝓤) (run : Routine → Fun 𝓤) where
-  open-walks : (C : Calls 𝓤 H) (Λ : Loops 𝓤 H) → FmC 𝓤 H (W .laws) C → Triple 𝓤 (C #directory·start) (Start 𝓤 H A mem run) → Triple 𝓤 (C #directory·fault-of) (FaultOf 𝓤 H A mem run)
+  open-walks : (C : Calls 𝓤 H) (Λ : Loops 𝓤 H) → FmC 𝓤 H (W .laws) C → Triple 𝓤 (C #cursor·start) (Start 𝓤 H A mem run) → Triple 𝓤 (C #directory·fault-of) (FaultOf 𝓤 H A mem run)
       → Walks 𝓤 H A opens.ended stayed (WpFn 𝓤 H C Λ code.function) (opens.clauses 𝓤 H A mem run)
   open-walks C Λ fm known-start known-fault = walked 𝓤 H A opens.ended stayed (opens.clauses 𝓤 H A mem run) (WpFn 𝓤 H C Λ code.function) (λ κs. (slice-vals, (uint-vals w64, tt))) (λ κs. (shr-slice-tells (named 0) (κs .0) u16, (uint-tells w64, tt)))
       (λ κs qs bounds a g are. via 𝓤 _ (fst∗ 𝓤 _ (emp 𝓤)) (walk 𝓤 H A W mem run (κs .0) (qs .0) (a .0) (a .1 .0) (are .1 .0 .1) C Λ fm known-start known-fault (are .0)))
 
 open-meets : {M : Type 1} (𝓤 : URA M) (H : Heap 𝓤) (A : Atoms 𝓤) (W : Given 𝓤 H A) (mem : Memory → SProp 𝓤) (run : Routine → Fun 𝓤) (𝓣 : Tables 𝓤 H)
-    → Triple 𝓤 (𝓣 .C #directory·start) (Start 𝓤 H A mem run) → Triple 𝓤 (𝓣 .C #directory·fault-of) (FaultOf 𝓤 H A mem run)
+    → Triple 𝓤 (𝓣 .C #cursor·start) (Start 𝓤 H A mem run) → Triple 𝓤 (𝓣 .C #directory·fault-of) (FaultOf 𝓤 H A mem run)
     → Meets 𝓤 H A opens.signature (WpFn 𝓤 H (𝓣 .C) (𝓣 .Λ) code.function) (opens.spec 𝓤 H A mem run)
 open-meets 𝓤 H A W mem run 𝓣 known-start known-fault = walk-meets 𝓤 H A opens.ended stayed W (goes-none-slice 𝓤 H A W 1 (0 ∷ []) tt (plain (λ _. u16)) yes, (goes-none 𝓤 H A W 1 (λ _. usize) yes (λ κs x f. refl), tt)) (opens.clauses 𝓤 H A mem run) (WpFn 𝓤 H (𝓣 .C) (𝓣 .Λ) code.function) (WpFn-mono 𝓤 H (W .laws) 𝓣 code.function)
     (open-walks 𝓤 H A W mem run (𝓣 .C) (𝓣 .Λ) (fmOf 𝓤 H (W .laws) 𝓣) known-start known-fault)
@@ -189,5 +189,5 @@ open-spec 𝓤 H 𝓜 𝓖 𝓡 =
     entered 𝓤 H (tripleOf 𝓤 H (𝓖 .A) opens.signature (opens.spec 𝓤 H (𝓖 .A) (𝓜 .mem) (𝓡 .run)))
     (tables 𝓤 H 𝓜 𝓡 code.env .C) (tables 𝓤 H 𝓜 𝓡 code.env .Λ) #reader·open code.function (code.unfolded 𝓤 H 𝓜 𝓡)
     (open-meets 𝓤 H (𝓖 .A) (givenOf 𝓤 H 𝓜 𝓖) (𝓜 .mem) (𝓡 .run) (tablesOf 𝓤 H 𝓜 (tables 𝓤 H 𝓜 𝓡 code.env))
-    (cited 𝓤 H (Start 𝓤 H (𝓖 .A) (𝓜 .mem) (𝓡 .run)) 𝓜 𝓡 code.env #directory·start start-def.routine code.calls-directory·cursor·start (start-thm.met 𝓤 H 𝓜 𝓖 𝓡))
+    (cited 𝓤 H (Start 𝓤 H (𝓖 .A) (𝓜 .mem) (𝓡 .run)) 𝓜 𝓡 code.env #cursor·start start-def.routine code.calls-cursor·start (start-thm.met 𝓤 H 𝓜 𝓖 𝓡))
     (cited 𝓤 H (FaultOf 𝓤 H (𝓖 .A) (𝓜 .mem) (𝓡 .run)) 𝓜 𝓡 code.env #directory·fault-of fault-of-def.routine code.calls-directory·sound·fault-of (fault-of-thm.met 𝓤 H 𝓜 𝓖 𝓡)))

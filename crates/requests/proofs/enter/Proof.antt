@@ -16,9 +16,9 @@ use Rattle.meaning.specs.Answers.{refuse, isNone, openOn}
 use Rattle.meaning.specs.Requests.{goodChannel, wordOf}
 use Rattle.meaning.specs.Enter.{Size, sizeOf, goodSize, enter}
 use Rattle.choice.specs.Asks.{sizeBy}
-use Rattle.directory.proofs.Chains.{fault-chained}
+use Rattle.chain.proofs.Chains.{fault-chained}
 use Rattle.enter.specs.Entering.{entering}
-use Rattle.requests.proofs.Doors.{answer-of, words-of, faulty, open-found, open-none, channel-fits}
+use Rattle.door.proofs.Doors.{answer-of, words-of, faulty, open-found, open-none, channel-fits}
 use Rattle.requests.proofs.Enters.{name-wrong, channel-wrong, size-wrong, date-wrong, in-use, let-in}
 use Rattle.requests.proofs.enter.Statement.{statement}
 use Rattle.requests.proofs.enter.Tie as tie

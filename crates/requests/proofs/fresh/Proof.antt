@@ -9,7 +9,7 @@ use Rattle.meaning.specs.Answers.{refuse, success}
 use Rattle.meaning.specs.Requests.{fresh}
 use Rattle.meaning.specs.Sound.{bad1}
 use Rattle.walks.proofs.Heads.{sized}
-use Rattle.directory.proofs.Chains.{size-is}
+use Rattle.chain.proofs.Chains.{size-is}
 use Rattle.requests.proofs.fresh.Statement.{statement}
 use Rattle.requests.proofs.fresh.Tie as tie
 

@@ -7,7 +7,7 @@ use mir.ValLaws.{toZ-ofZ}
 use lib.IntN.{ℤ}
 use Rattle.meaning.specs.Requests.{close}
 use Rattle.meaning.specs.Enter.{enter}
-use Rattle.requests.proofs.Doors.{answer-of, words-of}
+use Rattle.door.proofs.Doors.{answer-of, words-of}
 use denote.Ref.{now}
 use Rattle.requests.proofs.Serving.{looked-up, serves-lookup, serves-enter, serves-close, serves-abandon, serves-delete, serves-rename}
 use Rattle.requests.proofs.serve.Statement.{statement}

@@ -7,7 +7,7 @@ use borrow.Author.Needs.{needs}
 use Prim.Native.Nat.{_+_}
 use lib.ListN.{length-take, length-drop}
 use Rattle.segment.specs.declared.finder.Found.the-variants.{At, Nothing}
-use Rattle.directory.proofs.Links.{base, Next, next}
+use Rattle.chain.proofs.Links.{base, Next, next}
 use Rattle.directory.proofs.Finding.{Finding, starts, turn, turned, found-part, widen}
 use Rattle.directory.proofs.find.find_entry.Statement.{statement}
 use Rattle.directory.proofs.find.find_entry.Tie as tie

@@ -10,10 +10,10 @@ use Rattle.meaning.specs.Words.{highest}
 use Rattle.meaning.specs.Sound.{bad1, bad2, bad3, bad6, fault}
 use Rattle.walks.specs.Links.{linked}
 use Rattle.walks.proofs.Linked.{bad3-walk}
-use Rattle.directory.specs.Measure.{measureOf}
+use Rattle.chain.specs.Measure.{measureOf}
 use Rattle.walks.proofs.Heads.{sized, headed}
-use Rattle.directory.proofs.Chains.{size-is, chained}
-use Rattle.directory.proofs.Faults.{fault-is}
+use Rattle.chain.proofs.Chains.{size-is, chained}
+use Rattle.chain.proofs.Faults.{fault-is}
 use Rattle.directory.proofs.sound.fault_of.Statement.{statement}
 use Rattle.directory.proofs.sound.fault_of.Tie as tie
 

@@ -9,7 +9,7 @@ use Rattle.insert.proofs.place.enter_area.Statement.{statement}
 use Rattle.insert.proofs.place.enter_area.Tie as tie
 use Rattle.insert.proofs.place.enter_area.Reads as reads
 use Rattle.insert.proofs.place.enter_area.Lts as lts
-use Rattle.insert.proofs.measure.count_entries.Reads as count-entries-reads
+use Rattle.render.proofs.measure.count_entries.Reads as count-entries-reads
 use Rattle.insert.proofs.place.insert.Reads as insert-reads
 use Rattle.insert.proofs.place.slot_words.Reads as slot-words-reads
 use Rattle.insert.proofs.place.split_and_insert.Reads as split-and-insert-reads

@@ -9,9 +9,9 @@ use Rattle.insert.proofs.place.fresh_segment.Statement.{statement}
 use Rattle.insert.proofs.place.fresh_segment.Tie as tie
 use Rattle.insert.proofs.place.fresh_segment.Reads as reads
 use Rattle.insert.proofs.place.fresh_segment.Lts as lts
-use Rattle.insert.proofs.measure.sum_lengths.Reads as sum-lengths-reads
-use Rattle.insert.proofs.render.inserted_segment.Reads as inserted-segment-reads
-use Rattle.insert.proofs.render.plain_segment.Reads as plain-segment-reads
+use Rattle.render.proofs.measure.sum_lengths.Reads as sum-lengths-reads
+use Rattle.render.proofs.inserted_segment.Reads as inserted-segment-reads
+use Rattle.render.proofs.plain_segment.Reads as plain-segment-reads
 
 -- src/place.rt:84:21
 mul-start : tie.Need-mul-start

@@ -12,7 +12,7 @@ use Rattle.insert.proofs.place.insert.Lts as lts
 use Rattle.copying.proofs.copy_words.Reads as copy-words-reads
 use Rattle.insert.proofs.place.slot_words.Reads as slot-words-reads
 use Rattle.insert.proofs.place.whole_segment.Reads as whole-segment-reads
-use Rattle.insert.proofs.render.entry_words.Reads as entry-words-reads
+use Rattle.render.proofs.entry_words.Reads as entry-words-reads
 
 -- src/place.rt:46:9
 slot-words-requires : tie.Need-slot-words-requires

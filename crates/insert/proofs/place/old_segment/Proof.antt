@@ -11,8 +11,8 @@ use Rattle.insert.proofs.place.old_segment.Tie as tie
 use Rattle.insert.proofs.place.old_segment.Reads as reads
 use Rattle.insert.proofs.place.old_segment.Lts as lts
 use Rattle.copying.proofs.copy_words.Reads as copy-words-reads
-use Rattle.insert.proofs.render.inserted_segment.Reads as inserted-segment-reads
-use Rattle.insert.proofs.render.plain_segment.Reads as plain-segment-reads
+use Rattle.render.proofs.inserted_segment.Reads as inserted-segment-reads
+use Rattle.render.proofs.plain_segment.Reads as plain-segment-reads
 
 -- src/place.rt:59:20
 mul-stop : tie.Need-mul-stop

@@ -13,11 +13,11 @@ use Rattle.insert.proofs.place.split_and_insert.Tie as tie
 use Rattle.insert.proofs.place.split_and_insert.Reads as reads
 use Rattle.insert.proofs.place.split_and_insert.Lts as lts
 use Rattle.copying.proofs.copy_words.Reads as copy-words-reads
-use Rattle.insert.proofs.measure.count_kept.Reads as count-kept-reads
+use Rattle.render.proofs.measure.count_kept.Reads as count-kept-reads
 use Rattle.insert.proofs.place.fresh_segment.Reads as fresh-segment-reads
 use Rattle.insert.proofs.place.old_segment.Reads as old-segment-reads
 use Rattle.insert.proofs.place.slot_words.Reads as slot-words-reads
-use Rattle.insert.proofs.render.entry_words.Reads as entry-words-reads
+use Rattle.render.proofs.entry_words.Reads as entry-words-reads
 
 -- src/place.rt:99:9
 slot-words-requires : tie.Need-slot-words-requires

@@ -10,7 +10,7 @@ use Rattle.insert.proofs.place.whole_segment.Statement.{statement}
 use Rattle.insert.proofs.place.whole_segment.Tie as tie
 use Rattle.insert.proofs.place.whole_segment.Reads as reads
 use Rattle.insert.proofs.place.whole_segment.Lts as lts
-use Rattle.insert.proofs.render.inserted_segment.Reads as inserted-segment-reads
+use Rattle.render.proofs.inserted_segment.Reads as inserted-segment-reads
 
 -- src/place.rt:37:20
 mul-stop : tie.Need-mul-stop

@@ -3,7 +3,7 @@ use borrow.Author.Needs.{needs}
 use mathlib.Core.Path.{sym, _∙_}
 use lib.ListN.{length}
 use denote.Ref.{now}
-use Rattle.directory.specs.Cursor.{rowsAt}
+use Rattle.cursor.specs.Cursor.{rowsAt}
 use Rattle.listing.proofs.Shows.{Showing, show-none, shown, show-all, show-less, show-more}
 use Rattle.listing.proofs.rows.put_rows.Statement.{statement}
 use Rattle.listing.proofs.rows.put_rows.Tie as tie

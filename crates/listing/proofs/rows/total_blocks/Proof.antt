@@ -4,7 +4,7 @@ use borrow.Author.Needs.{needs}
 use mathlib.Core.Path.{sym, _∙_}
 use lib.ListN.{length}
 use denote.Ref.{now}
-use Rattle.directory.specs.Cursor.{rowsAt}
+use Rattle.cursor.specs.Cursor.{rowsAt}
 use Rattle.listing.proofs.Sums.{Summing, sum-none, sum-fits, sum-all, sum-less, sum-more}
 use Rattle.listing.proofs.rows.total_blocks.Statement.{statement}
 use Rattle.listing.proofs.rows.total_blocks.Tie as tie

@@ -1,0 +1,3 @@
+pub mod Chained
+pub mod Head
+pub mod Measure

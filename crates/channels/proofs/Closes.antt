@@ -1,0 +1,104 @@
+-- Close, carried out. The row behind the place is the tentative entry that was found, so its words stand in the directory, its next slot
+-- lies in it, and the sum fits a word (law `closable`); the four writes and the old file's one are made one after the other.
+use Prim.Native.Nat.{ℕ, _+_, _-_, _≤_, _<_}
+use mathlib.Core.Path.{_≡_, refl, sym, ap, _∙_}
+use mathlib.Core.List.{List, [], _∷_, _++_}
+use mathlib.Core.Option.{Option, none, some}
+use native.Mathlib.Omega.{arith}
+use lib.ListN.{length, getD, set}
+use Rattle.meaning.specs.Words.{Row, slotWords, lengthWord, blocks, dateOf, rows}
+use Rattle.meaning.specs.Sound.{fault}
+use Rattle.meaning.specs.Answers.{Write, put, write, find, permanentNamed, fileOf, openOn, tentativeOn}
+use Rattle.meaning.specs.Requests.{emptying, replacing, closing}
+use Rattle.segment.specs.declared.finder.Key.the-variants.{File}
+use Rattle.segment.specs.declared.finder.Place.{Place}
+use Rattle.segment.specs.declared.finder.Found.{Found}
+use Rattle.segment.specs.declared.finder.Found.the-variants.{At, Nothing}
+use Rattle.segment.specs.Finder.{keyed, foundOf, Inside}
+use Rattle.laws.proofs.Grown.{closable, row-ends}
+use Rattle.channels.specs.Closing.{replacingAt, Opened}
+
+-- writes one after the other
+pub write-append : (d : List ℕ) (xs ys : List Write) → write d (xs ++ ys) ≡ write (write d xs) ys
+unfolding write
+write-append d [] ys = refl
+write-append d (x ∷ xs) ys = write-append (set d (x .place + x .word) (x .value)) xs ys
+
+-- the old file, as it was found
+pub replaced : (o : Option Row) (f : Found) → f ≡ foundOf o → replacingAt f ≡ replacing o
+unfolding replacing emptying
+replaced none f e = rw e
+replaced (some r) f e = rw e
+
+-- what is known of the place p at which close works, and of the row r behind it
+pub record Ready (d : List ℕ) (p : Place) (r : Row) : Type 0 where
+  pub at : r .at ≡ p .at
+  pub length′ : blocks (r .entry) ≡ p .length
+  pub first : r .first ≡ p .first
+  pub date : dateOf (r .entry) ≡ p .date
+  pub word : (k : ℕ) → k < 7 → getD d (p .at + k) 0 ≡ getD (r .entry) k 0
+  pub room : p .at + slotWords d + slotWords d ≤ length d
+  pub fits : p .length + getD d (p .at + slotWords d + lengthWord) 0 ≤ 65535
+  pub small : p .first ≤ 65535
+
+pub ready : (v : ℕ) (d : List ℕ) → fault v d ≡ 0 → (x : ℕ) (p : Place) (o : Opened d x p) → Ready d p (o .row)
+unfolding openOn
+ready v d h x p o =
+    let r = o .row in
+    let c = closable v d h x r (o .is) in
+    let a : r .at ≡ p .at = ap (λ (q : Place). q .at) (o .place) in
+    let l : blocks (r .entry) ≡ p .length = ap (λ (q : Place). q .length) (o .place) in
+    let f : r .first ≡ p .first = ap (λ (q : Place). q .first) (o .place) in
+    let e = row-ends v d h (tentativeOn x) r (o .is) in
+    record {
+      at = a;
+      length′ = l;
+      first = f;
+      date = ap (λ (q : Place). q .date) (o .place);
+      word = λ k m. ap (λ (z : ℕ). getD d (z + k) 0) (sym a) ∙ c .word k m;
+      room = rw (← a) (c .room);
+      fits = rw (← a, ← l) (c .fits);
+      small = omega arith;
+    }
+
+-- the old file is looked for by the words that stand at the place
+pub old-key : (d : List ℕ) (p : Place) (r : Row) → Ready d p r → (f : Found)
+    → f ≡ foundOf (find (keyed (File (getD d (p .at + 1) 0) (getD d (p .at + 2) 0) (getD d (p .at + 3) 0))) (rows d))
+    → f ≡ foundOf (fileOf d (getD (r .entry) 1 0) (getD (r .entry) 2 0) (getD (r .entry) 3 0))
+unfolding fileOf
+old-key d p r q f e =
+    e
+    ∙ ap (λ (x : ℕ). foundOf (find (permanentNamed x (getD d (p .at + 2) 0) (getD d (p .at + 3) 0)) (rows d))) (q .word 1 (omega arith))
+    ∙ ap (λ (x : ℕ). foundOf (find (permanentNamed (getD (r .entry) 1 0) x (getD d (p .at + 3) 0)) (rows d))) (q .word 2 (omega arith))
+    ∙ ap (λ (x : ℕ). foundOf (find (permanentNamed (getD (r .entry) 1 0) (getD (r .entry) 2 0) x) (rows d))) (q .word 3 (omega arith))
+
+-- the words after both steps are those of the close
+pub closed-words : (d : List ℕ) (p : Place) (r : Row) (n : ℕ) (f : Found) → Ready d p r
+    → f ≡ foundOf (fileOf d (getD (r .entry) 1 0) (getD (r .entry) 2 0) (getD (r .entry) 3 0))
+    → write
+    (write d
+    (put (p .at) 0 1024
+    ∷ put (p .at) 4 n
+    ∷ put (p .at) 5 0
+    ∷ put (p .at + slotWords d) 4 (getD d (p .at + slotWords d + 4) 0 + (getD d (p .at + 4) 0 - n))
+    ∷ []))
+    (replacingAt f)
+    ≡ write d (closing d r n)
+unfolding closing
+closed-words d p r n f q e =
+    let o = fileOf d (getD (r .entry) 1 0) (getD (r .entry) 2 0) (getD (r .entry) 3 0) in
+    let b : getD d (p .at + 4) 0 ≡ blocks (r .entry) = q .word 4 (omega arith) in
+    rw (replaced o f e, b, q .at)
+    (sym
+    (write-append d
+    (put (p .at) 0 1024
+    ∷ put (p .at) 4 n
+    ∷ put (p .at) 5 0
+    ∷ put (p .at + slotWords d) 4 (getD d (p .at + slotWords d + 4) 0 + (blocks (r .entry) - n))
+    ∷ [])
+    (replacing o)))
+
+-- a slot inside the directory leaves room for an entry's seven words
+pub inside-less : (f : Found) (w n m : ℕ) → 7 ≤ w → n ≡ m → Inside f w n → Inside f 7 m
+inside-less (At p) w n m l e h = omega arith
+inside-less Nothing w n m l e h = tt

@@ -1,0 +1,40 @@
+-- What the routines behind close promise: the final length, the old file, and the entry closed at a place.
+use Prim.Native.Nat.{ℕ}
+use mathlib.Core.Path.{_≡_}
+use mathlib.Core.Bool.{cond}
+use mathlib.Core.List.{List, [], _∷_}
+use mathlib.Core.Option.{Option, none, some}
+use lib.IntN.{ℤ}
+use lib.Dec.{leb}
+use Rattle.meaning.specs.Words.{Row, statusWord, dateOf}
+use Rattle.meaning.specs.Answers.{Outcome, success, onRow, Write, put, write, openOn}
+use Rattle.meaning.specs.Requests.{finalLength, closing}
+use Rattle.segment.specs.declared.finder.Place.{Place}
+use Rattle.segment.specs.declared.finder.Found.{Found}
+use Rattle.segment.specs.declared.finder.Found.the-variants.{At, Nothing}
+use Rattle.segment.specs.Finder.{placeOf}
+use Rattle.channels.specs.declared.Final.{Final}
+use Rattle.channels.specs.declared.Final.the-variants.{Length, Wrong}
+
+-- 16: final length below 0 or above the tentative length
+abbrev pub finalUnder : Option ℕ → ℕ → Final
+finalUnder none longest = Wrong
+finalUnder (some n) longest = cond (leb n longest) (Length n) Wrong
+
+unfoldable pub finalBy : ℤ → ℕ → Final
+finalBy z longest = finalUnder (finalLength z) longest
+
+-- the old file's status
+abbrev pub replacingAt : Found → List Write
+replacingAt (At p) = put (p .at) statusWord 512 ∷ []
+replacingAt Nothing = []
+
+-- a place is that of the tentative entry on a channel word
+pub record Opened (d : List ℕ) (word : ℕ) (p : Place) : Type 0 where
+  pub row : Row
+  pub is : openOn d word ≡ some row
+  pub place : placeOf row ≡ p
+
+-- close, once nothing can refuse it any more
+unfoldable pub closedOn : List ℕ → ℕ → ℕ → Outcome
+closedOn d word n = onRow 15 (openOn d word) d λ r. success (r .first) n (dateOf (r .entry)) (write d (closing d r n))

@@ -1,0 +1,109 @@
+// The requests on an open file, by its channel: abandon and close. Any words, any V, job, channel and length may be handed in. Each request
+// is refused by its number, in the order of the numbers, or carried out. A refusal answers zeros and changes no word.
+use directory::find::find_entry;
+use directory::sound::fault_of;
+use door::empty_found;
+use door::is_channel;
+use door::refused;
+use edits::change::make_empty;
+use edits::change::make_permanent;
+use meaning::Answer;
+use segment::finder::Found;
+use segment::finder::Key;
+use segment::finder::Place;
+ghost use mathlib.Core.Path.{_≡_};
+ghost use Prim.Native.Nat.{_≤_};
+ghost use lib.ListN.{length};
+ghost use Rattle.meaning.specs.Sound.{fault};
+ghost use Rattle.meaning.specs.Requests.{abandon, close};
+ghost use Rattle.meaning.specs.Answers.{write};
+ghost use Rattle.segment.specs.Finder.{Inside};
+ghost use Rattle.door.specs.Door.{Meets};
+ghost use Rattle.channels.specs.Closing.{finalBy, replacingAt, Opened, closedOn};
+
+// A final length that a tentative entry allows, or none.
+pub enum Final {
+    Length(u16),
+    Wrong,
+}
+
+pub fn abandon(d: &mut [u16], v: usize, job: u16, channel: u16) -> Answer
+    ensures { λ r. ⌜ Meets r (now (d .exit)) (abandon v (now (d .entry)) job channel) ⌝ }
+{
+    let number = fault_of(d, v);
+    if number != 0 {
+        return refused(number);
+    }
+    if !is_channel(job, channel) {
+        return refused(8);
+    }
+    empty_found(d, v, Key::Open(job * 256 + channel), 15)
+}
+
+// A final length of 0 up to the tentative length.
+fn final_of(size: i32, longest: u16) -> Final
+    ensures { λ r. ⌜ r ≡ finalBy size longest ⌝ }
+{
+    if size < 0 {
+        return Final::Wrong;
+    }
+    let blocks = size as u32;
+    if (longest as u32) < blocks {
+        return Final::Wrong;
+    }
+    Final::Length(blocks as u16)
+}
+
+// The file that was found, if any, becomes empty.
+fn empty_old(d: &mut [u16], old: Found)
+    requires { ⌜ Inside old 7 (length (now d)) ⌝ }
+    ensures { λ _. ⌜ now (d .exit) ≡ write (now (d .entry)) (replacingAt old) ⌝ }
+{
+    match old {
+        Found::At(place) => {
+            let at = place.at;
+            make_empty(d, at);
+        }
+        Found::Nothing => {}
+    }
+}
+
+// The tentative entry at a place becomes a file of this length. A file of its name is looked for before anything is written.
+fn close_at(d: &mut [u16], v: usize, word: u16, place: Place, size: u16) -> Answer
+    requires { ⌜ (fault v (now d) ≡ 0) × Opened (now d) word place × (size ≤ place .length) ⌝ }
+    ensures { λ r. ⌜ Meets r (now (d .exit)) (closedOn (now (d .entry)) word size) ⌝ }
+{
+    let at = place.at;
+    let width = 7 + (d[3] / 2) as usize;
+    let next = at + width;
+    let old = find_entry(d, Key::File(d[at + 1], d[at + 2], d[at + 3]));
+    make_permanent(d, at, next, size);
+    empty_old(d, old);
+    Answer {
+        number: 0,
+        first: place.first as u16,
+        length: size,
+        date: place.date,
+    }
+}
+
+pub fn close(d: &mut [u16], v: usize, job: u16, channel: u16, size: i32) -> Answer
+    ensures { λ r. ⌜ Meets r (now (d .exit)) (close v (now (d .entry)) job channel size) ⌝ }
+{
+    let number = fault_of(d, v);
+    if number != 0 {
+        return refused(number);
+    }
+    if !is_channel(job, channel) {
+        return refused(8);
+    }
+    let word = job * 256 + channel;
+    let found = find_entry(d, Key::Open(word));
+    let Found::At(place) = found else {
+        return refused(15);
+    };
+    match final_of(size, place.length) {
+        Final::Length(blocks) => close_at(d, v, word, place, blocks),
+        Final::Wrong => refused(16),
+    }
+}

@@ -1,0 +1,44 @@
+-- `list_entry` meets its contract: the place is written after those listed (`listed-entry`), or the list stays as it is
+-- (`passed-entry`). The list has room, since it is shorter than the slots of all segments. Assumes nothing.
+use borrow.Author.Needs.{needs}
+use mathlib.Core.Path.{sym, _∙_}
+use Rattle.clashes.proofs.Listing.{listed-entry, passed-entry}
+use Rattle.clashes.proofs.list_entry.Statement.{statement}
+use Rattle.clashes.proofs.list_entry.Tie as tie
+
+can-clash-requires : tie.Need-can-clash-requires
+can-clash-requires c κs = search needs
+
+cast-places : tie.Need-cast-places
+cast-places c = search needs
+
+mul-places : tie.Need-mul-places
+mul-places c = search needs
+
+element-write-places : tie.Need-element-write-places
+element-write-places c = search needs
+
+add-result : tie.Need-add-result
+add-result c = search needs
+
+returns : tie.Need-returns
+returns c =
+    let s = c .before .before .before in
+    listed-entry (s .pre .0) (s .args .place) (s .pre .1) (s .pre .2) (sym (c .before .can-clash .ensures) ∙ c .if1 .taken)
+
+returns-2 : tie.Need-returns-2
+returns-2 c =
+    let s = c .before .before .before in
+    passed-entry (s .pre .0) (s .args .place) (sym (c .before .can-clash .ensures) ∙ c .if1 .left)
+
+pub list-entry-spec : {M : Type 1} → statement M
+list-entry-spec =
+    tie.close
+    (tie.spec
+    can-clash-requires
+    cast-places
+    mul-places
+    element-write-places
+    add-result
+    returns
+    returns-2)

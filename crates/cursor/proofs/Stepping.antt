@@ -1,0 +1,282 @@
+-- A step of the cursor as code takes it. The slot of a cursor lies in its segment, and so in the directory, word for word; an entry
+-- that stands there is the first of the rows from there on, and where none does the rows are those of the segment that the link
+-- names, or none. Assumes nothing.
+use Prim.Native.Nat.{ℕ, zero, suc, _+_, _*_, _-_, _/_, _≤_, _<_}
+use mathlib.Core.Path.{_≡_, refl, sym, ap, _∙_}
+use mathlib.Core.Bool.{Bool, true, false, cond, _&&_, not, true≢false}
+use mathlib.Core.List.{List, [], _∷_}
+use native.Mathlib.Nat.{add-zero, suc-mul, zero-mul, mul-le-mul-right, div-mul-le-self}
+use native.Mathlib.Omega.{arith}
+use lib.ListN.{length, getD, take, drop}
+use lib.Seq.{drop-drop, drop-cons, drop-length}
+use lib.Dec.{leb}
+use borrow.Author.Tests.{leb-true, leb-false, le-leb, not-true}
+use Rattle.names.proofs.Bools.{both}
+use Rattle.meaning.specs.declared.Kind.{Kind}
+use Rattle.meaning.specs.Kinds.{kindOf, isEnd}
+use Rattle.meaning.specs.Words.{Row, segments, segment, slotWords, slotCount, kind, chunks, slots, upto, rowsIn}
+use Rattle.segment.proofs.Slots.{word, mul-less}
+use Rattle.cursor.specs.Cursor.{isSegment, inside, Standing, placed, slotsHere, rowHere, onEntry, firstSlot}
+use Rattle.cursor.specs.Cursor.{entriesHere, rowsHere, rowsFrom, rowsAt, past, entryStep, stepOf, stepAt}
+use Rattle.cursor.specs.declared.Cursor.{Cursor}
+use Rattle.cursor.specs.declared.Step.the-variants.{Entry, End}
+use Rattle.chain.proofs.Links.{header, linkAt}
+
+pub segment-is : (d : List ℕ) (s : ℕ) → isSegment d s ≡ true → (1 ≤ s) × (512 * s ≤ length d)
+unfolding isSegment
+segment-is d s e =
+    let p = both (leb 1 s) (leb s (segments d)) e in
+    let h = leb-true s (segments d) (p .1) in
+    (leb-true 1 s (p .0), omega arith)
+
+pub is-segment : (d : List ℕ) (s : ℕ) → 1 ≤ s → 512 * s ≤ length d → isSegment d s ≡ true
+unfolding isSegment
+is-segment d s l h = rw (le-leb 1 s l, le-leb s (segments d) (omega arith))
+
+pub standing : (d : List ℕ) (c : Cursor) → inside d c ≡ true → Standing d c
+unfolding inside
+standing d c e =
+    let a = isSegment d (c .seg) in
+    let b = leb 1 (c .slot) in
+    let m = leb (c .slot) (slotCount (slotWords d) + 1) in
+    let p = both (a && b && m) (leb (c .first) 65535) e in
+    let q = both (a && b) m (p .0) in
+    let r = both a b (q .0) in
+    let s = segment-is d (c .seg) (r .0) in
+    record {
+      low = s .0;
+      high = s .1;
+      some = leb-true 1 (c .slot) (r .1);
+      most = leb-true (c .slot) (slotCount (slotWords d) + 1) (q .1);
+      small = leb-true (c .first) 65535 (p .1);
+    }
+
+pub stands : (d : List ℕ) (c : Cursor) → Standing d c → inside d c ≡ true
+unfolding inside
+stands d c s =
+    rw (
+      is-segment d (c .seg) (s .low) (s .high),
+      le-leb 1 (c .slot) (s .some),
+      le-leb (c .slot) (slotCount (slotWords d) + 1) (s .most),
+      le-leb (c .first) 65535 (s .small),
+    )
+
+-- slots before slot k, and slot k itself, end within the 507 words
+pub before-fits : (w k : ℕ) → 1 ≤ k → k ≤ slotCount w + 1 → (k - 1) * w ≤ 507
+before-fits w k l h =
+    let m : k - 1 ≤ 507 / w = omega arith in
+    omega (arith, mul-le-mul-right w m, div-mul-le-self 507 w)
+
+pub slot-fits : (w k : ℕ) → 1 ≤ k → k ≤ slotCount w → (k - 1) * w + w ≤ 507
+slot-fits w k l h = omega (arith, mul-less k w l, mul-le-mul-right w h, div-mul-le-self 507 w)
+
+length-chunks : (n w : ℕ) (l : List ℕ) → length (chunks n w l) ≡ n
+unfolding chunks
+length-chunks zero w l = refl
+length-chunks (suc n) w l = ap suc (length-chunks n w (drop w l))
+
+length-slots : (w : ℕ) (g : List ℕ) → length (slots w g) ≡ slotCount w
+unfolding slots
+length-slots w g = length-chunks (slotCount w) w (drop 5 g)
+
+-- slot k of n, counted from 0
+chunk-at : (n w k : ℕ) (l : List ℕ) → k < n → getD (chunks n w l) k [] ≡ take w (drop (k * w) l)
+unfolding chunks
+chunk-at zero w k l h = absurd (omega arith)
+chunk-at (suc n) w zero l h = rw (zero-mul w)
+chunk-at (suc n) w (suc k) l h =
+    let m : suc k * w ≡ w + k * w = suc-mul k w ∙ omega arith in
+    chunk-at n w k (drop w l) (omega arith) ∙ rw (drop-drop (k * w) w l, m)
+
+module _ (d : List ℕ) (c : Cursor) (s : Standing d c) where
+  -- the words of the slot, in the directory
+  pub word-here : (j : ℕ) → j < slotWords d → c .slot ≤ slotCount (slotWords d)
+      → getD (rowHere d c .entry) j 0 ≡ getD d (placed d c + j) 0
+  unfolding rowHere placed slots
+  word-here j h m =
+      let w = slotWords d in
+      let k = c .slot - 1 in
+      let g = segment d (c .seg) in
+      let f = slot-fits w (c .slot) (s .some) m in
+      let e : 512 * (c .seg - 1) + (5 + k * w + j) ≡ 512 * (c .seg - 1) + 5 + k * w + j = omega arith in
+      ap (λ (x : List ℕ). getD x j 0) (chunk-at (slotCount w) w k (drop 5 g) (omega arith) ∙ ap (take w) (drop-drop (k * w) 5 g))
+      ∙ word g (5 + k * w) w j h
+      ∙ header d (c .seg) (5 + k * w + j) (omega arith)
+      ∙ ap (λ (x : ℕ). getD d x 0) e
+
+  -- the status word, which code reads at the place and not at the place + 0
+  pub word-here0 : c .slot ≤ slotCount (slotWords d) → getD (rowHere d c .entry) 0 0 ≡ getD d (placed d c) 0
+  word-here0 m = word-here 0 (omega arith) m ∙ ap (λ (x : ℕ). getD d x 0) (add-zero (placed d c))
+
+  pub place-fits : c .slot ≤ slotCount (slotWords d) → placed d c + slotWords d ≤ length d
+  unfolding placed
+  place-fits m = let f = slot-fits (slotWords d) (c .slot) (s .some) m in omega arith
+
+  -- the entry that a step gives, by the words that code reads
+  pub sees : (p : ℕ) (k : Kind) → c .slot ≤ slotCount (slotWords d) → p ≡ placed d c → k ≡ kindOf (getD d p 0)
+      → Entry
+      (record {
+        seg = c .seg;
+        slot = c .slot;
+        at = p;
+        first = c .first;
+        kind = k;
+        name = record { first = getD d (p + 1) 0; second = getD d (p + 2) 0; extension = getD d (p + 3) 0 };
+        length = getD d (p + 4) 0;
+        channel = getD d (p + 5) 0;
+        date = getD d (p + 6) 0;
+      })
+      (record { seg = c .seg; slot = c .slot + 1; first = c .first + getD d (p + 4) 0 })
+      ≡ entryStep (rowHere d c)
+  unfolding rowHere
+  sees p k m e f =
+      rw (
+        f,
+        e,
+        word-here0 m,
+        word-here 1 (omega arith) m,
+        word-here 2 (omega arith) m,
+        word-here 3 (omega arith) m,
+        word-here 4 (omega arith) m,
+        word-here 5 (omega arith) m,
+        word-here 6 (omega arith) m,
+      )
+
+  -- past the last slot there are no entries
+  past-last : slotCount (slotWords d) < c .slot → entriesHere d c ≡ []
+  unfolding entriesHere upto
+  past-last h =
+      let l = slotsHere d c in
+      let e : c .slot - 1 ≡ length l = rw (length-slots (slotWords d) (segment d (c .seg))) (omega arith) in
+      rw (e, drop-length l)
+
+  -- the entries from a slot on, by whether the marker stands there
+  by-marker : c .slot ≤ slotCount (slotWords d)
+      → entriesHere d c ≡ cond (isEnd (kind (rowHere d c .entry))) [] (rowHere d c .entry ∷ entriesHere d (past (rowHere d c)))
+  unfolding entriesHere upto rowHere
+  by-marker m =
+      let k = c .slot - 1 in
+      let l = slotsHere d c in
+      let e = getD l k [] in
+      let long : k < length l = rw (length-slots (slotWords d) (segment d (c .seg))) (omega arith) in
+      let a : suc k ≡ c .slot + 1 - 1 = omega arith in
+      let x : drop k l ≡ e ∷ drop (c .slot + 1 - 1) l = drop-cons l k [] long ∙ ap (λ (z : ℕ). e ∷ drop z l) a in
+      rw x
+
+  -- no entry stands there
+  pub ahead-none : onEntry d c ≡ false → entriesHere d c ≡ []
+  unfolding onEntry
+  ahead-none e = go (leb (c .slot) (slotCount (slotWords d))) (isEnd (kind (rowHere d c .entry))) refl refl e
+    where
+      go : (t u : Bool) → leb (c .slot) (slotCount (slotWords d)) ≡ t → isEnd (kind (rowHere d c .entry)) ≡ u → t && not u ≡ false
+          → entriesHere d c ≡ []
+      go true true m n h = by-marker (leb-true (c .slot) (slotCount (slotWords d)) m) ∙ rw n
+      go true false m n h = absurd (true≢false h)
+      go false u m n h = past-last (leb-false (c .slot) (slotCount (slotWords d)) m)
+
+  pub here-none : onEntry d c ≡ false → rowsHere d c ≡ []
+  unfolding rowsHere rowsIn
+  here-none e = rw (ahead-none e)
+
+  -- one does
+  pub ahead-some : onEntry d c ≡ true → entriesHere d c ≡ rowHere d c .entry ∷ entriesHere d (past (rowHere d c))
+  unfolding onEntry
+  ahead-some e =
+      let m = leb (c .slot) (slotCount (slotWords d)) in
+      let n = isEnd (kind (rowHere d c .entry)) in
+      let p = both m (not n) e in
+      let q = not-true n (p .1) in
+      by-marker (leb-true (c .slot) (slotCount (slotWords d)) (p .0)) ∙ rw q
+
+  place-past : placed d (past (rowHere d c)) ≡ placed d c + slotWords d
+  unfolding placed rowHere
+  place-past =
+      let w = slotWords d in
+      let f : c .slot + 1 - 1 ≡ c .slot = omega arith in
+      rw f (omega (arith, mul-less (c .slot) w (s .some)))
+
+  pub here-some : onEntry d c ≡ true → rowsHere d c ≡ rowHere d c ∷ rowsHere d (past (rowHere d c))
+  unfolding rowsHere rowsIn rowHere
+  here-some e = rw (ahead-some e, place-past)
+
+  pub entry-slot : onEntry d c ≡ true → c .slot ≤ slotCount (slotWords d)
+  unfolding onEntry
+  entry-slot e =
+      let m = leb (c .slot) (slotCount (slotWords d)) in
+      leb-true (c .slot) (slotCount (slotWords d)) (both m (not (isEnd (kind (rowHere d c .entry)))) e .0)
+
+  -- a turn of a step, with n segments to ask. An entry ends it
+  from-entry : (n : ℕ) → 0 < n → onEntry d c ≡ true → stepOf (rowsFrom n d c) ≡ entryStep (rowHere d c)
+  unfolding rowsFrom
+  from-entry zero h e = absurd (omega arith)
+  from-entry (suc n) h e = rw (here-some e)
+
+  -- else the link is followed to a segment
+  from-link : (n : ℕ) → 0 < n → onEntry d c ≡ false → isSegment d (linkAt d (c .seg)) ≡ true
+      → rowsFrom n d c ≡ rowsFrom (n - 1) d (firstSlot d (linkAt d (c .seg)))
+  unfolding rowsFrom
+  from-link zero h e g = absurd (omega arith)
+  from-link (suc n) h e g =
+      let m : suc n - 1 ≡ n = omega arith in
+      rw (m, here-none e, header d (c .seg) 1 (omega arith), g)
+
+  -- or there is no more
+  from-last : (n : ℕ) → 0 < n → onEntry d c ≡ false → isSegment d (linkAt d (c .seg)) ≡ false → rowsFrom n d c ≡ []
+  unfolding rowsFrom
+  from-last zero h e g = absurd (omega arith)
+  from-last (suc n) h e g = rw (here-none e, header d (c .seg) 1 (omega arith), g)
+
+-- the walk's invariant: left segments are still to be asked, from here on
+pub record Stepping (d : List ℕ) (cursor : Cursor) (left : ℕ) (here : Cursor) : Type 0 where
+  pub asked : inside d cursor ≡ true
+  pub stands : Standing d here
+  pub few : left ≤ 31
+  pub same : rowsFrom left d here ≡ rowsAt d cursor
+
+pub steps : (d : List ℕ) (c : Cursor) → inside d c ≡ true → Stepping d c 31 c
+unfolding rowsAt
+steps d c e = record { asked = e; stands = standing d c e; few = omega arith; same = refl }
+
+-- what the walk answers where the rows are known
+answers : {d : List ℕ} {cursor : Cursor} {left : ℕ} {here : Cursor} (w : Stepping d cursor left here) (rs : List Row)
+    → rowsFrom left d here ≡ rs
+    → stepOf rs ≡ stepAt d cursor
+unfolding stepAt
+answers w rs e = rw (w .asked, ← w .same, e)
+
+pub at-entry : {d : List ℕ} {cursor : Cursor} {left : ℕ} {here : Cursor} → Stepping d cursor left here → 0 < left
+    → onEntry d here ≡ true
+    → entryStep (rowHere d here) ≡ stepAt d cursor
+at-entry {d} {cursor} {left} {here} w h e =
+    sym (from-entry d here (w .stands) left h e) ∙ answers w (rowsFrom left d here) refl
+
+pub at-last : {d : List ℕ} {cursor : Cursor} {left : ℕ} {here : Cursor} → Stepping d cursor left here → 0 < left
+    → onEntry d here ≡ false
+    → isSegment d (linkAt d (here .seg)) ≡ false
+    → End ≡ stepAt d cursor
+at-last {d} {cursor} {left} {here} w h e g = answers w [] (from-last d here (w .stands) left h e g)
+
+pub at-none : {d : List ℕ} {cursor : Cursor} {left : ℕ} {here : Cursor} → Stepping d cursor left here → left ≤ 0
+    → End ≡ stepAt d cursor
+unfolding rowsFrom
+at-none {d} {cursor} {left} {here} w h =
+    let z : left ≡ 0 = omega arith in
+    answers w [] (rw z)
+
+-- the link is followed
+pub at-link : {d : List ℕ} {cursor : Cursor} {left : ℕ} {here : Cursor} (to : Cursor) → Stepping d cursor left here → 0 < left
+    → onEntry d here ≡ false
+    → isSegment d (linkAt d (here .seg)) ≡ true
+    → (to ≡ firstSlot d (linkAt d (here .seg))) × Standing d to
+    → Stepping d cursor (left - 1) to
+at-link {d} {cursor} {left} {here} to w h e g t = record {
+  asked = w .asked;
+  stands = t .1;
+  few = omega (arith, w .few);
+  same = rw (t .0) (sym (from-link d here (w .stands) left h e g) ∙ w .same);
+}
+
+-- a cursor that stands at no slot is at the end
+pub at-no-slot : (d : List ℕ) (c : Cursor) → inside d c ≡ false → End ≡ stepAt d c
+unfolding stepAt
+at-no-slot d c e = rw e

@@ -1,0 +1,4 @@
+pub mod Writes
+pub mod Digits
+pub mod Shown
+pub mod Parts

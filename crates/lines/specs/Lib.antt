@@ -1,0 +1,3 @@
+pub mod Wrote
+pub mod Pieces
+pub mod Bounds

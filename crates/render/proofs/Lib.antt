@@ -1,0 +1,4 @@
+pub mod Chunks
+pub mod Anew
+pub mod Counting
+pub mod Parts
