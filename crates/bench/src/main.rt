@@ -1,9 +1,9 @@
 // Document 01's ten bench examples, each on a line that names it and says what came out. What it must write is in model/bench.py, read off
 // the document. An answer is number, first block, length and date; a slot is shown by its status and length.
+use dates::word_of_day;
 use libc::STDOUT_FILENO;
 use meaning::Answer;
 use meaning::Name;
-use names::dates::word_of_day;
 use names::radix::words_of_text;
 use requests::close;
 use requests::enter;

@@ -8,7 +8,7 @@ use native.Mathlib.Omega.{arith}
 use lib.ListN.{getD, take, drop}
 use lib.Dec.{leb, eqb}
 use borrow.Author.Tests.{leb-true}
-use Rattle.names.proofs.Bools.{both}
+use Rattle.bools.proofs.Bools.{both}
 use Rattle.meaning.specs.Words.{segment, totalOf, extraBytesOf, highest}
 use Rattle.walks.specs.Links.{linked}
 use Rattle.segment.proofs.Slots.{word, word0}

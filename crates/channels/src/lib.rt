@@ -1,12 +1,12 @@
 // The requests on an open file, by its channel: abandon and close. Any words, any V, job, channel and length may be handed in. Each request
 // is refused by its number, in the order of the numbers, or carried out. A refusal answers zeros and changes no word.
-use directory::find::find_entry;
 use directory::sound::fault_of;
 use door::empty_found;
 use door::is_channel;
 use door::refused;
 use edits::change::make_empty;
 use edits::change::make_permanent;
+use find::find_entry;
 use meaning::Answer;
 use segment::finder::Found;
 use segment::finder::Key;

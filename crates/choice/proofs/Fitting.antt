@@ -10,7 +10,7 @@ use native.Mathlib.Omega.{arith}
 use lib.ListN.{length, getD}
 use lib.Dec.{leb}
 use borrow.Author.Tests.{leb-true}
-use Rattle.names.proofs.Bools.{both}
+use Rattle.bools.proofs.Bools.{both}
 use Rattle.meaning.specs.declared.Kind.{Kind}
 use Rattle.meaning.specs.Kinds.{kindOf, isTentative, isEmpty, isEnd}
 use Rattle.meaning.specs.Words.{Entry, firstOf, kind, blocks, slotCount, slots, upto, total}

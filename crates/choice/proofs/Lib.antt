@@ -1,4 +1,3 @@
-pub mod Sizes
 pub mod Noted
 pub mod Ahead
 pub mod Surveying

@@ -13,7 +13,7 @@ use lib.ListN.{length, getD, take, drop, set, length-set}
 use lib.Seq.{getD-set-same, getD-set-other}
 use lib.Dec.{eqb}
 use borrow.Author.Tests.{eqb-true, eqb-false}
-use Rattle.names.proofs.Bools.{never}
+use Rattle.bools.proofs.Bools.{never}
 use Rattle.meaning.specs.Sound.{any, clash, clashes}
 use Rattle.segment.specs.declared.finder.Key.{Key}
 use Rattle.segment.specs.Finder.{keyed}

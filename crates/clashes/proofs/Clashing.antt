@@ -9,7 +9,7 @@ use native.Mathlib.Omega.{arith}
 use lib.ListN.{getD, take, drop}
 use lib.Dec.{eqb}
 use borrow.Author.Tests.{eqb-true}
-use Rattle.names.proofs.Bools.{both, neither}
+use Rattle.bools.proofs.Bools.{both, neither}
 use Rattle.meaning.specs.declared.Kind.{Kind}
 use Rattle.meaning.specs.declared.Kind.the-variants.{Tentative, Empty, Permanent, End, Unknown}
 use Rattle.meaning.specs.Kinds.{kindOf, isTentative, isPermanent}

@@ -11,7 +11,7 @@ use lib.ListN.{getD, take, drop}
 use lib.Seq.{drop-drop, take-nil, take-take}
 use lib.Dec.{eqb, leb}
 use borrow.Author.Tests.{leb-true}
-use Rattle.names.proofs.Bools.{both}
+use Rattle.bools.proofs.Bools.{both}
 use Rattle.meaning.specs.Words.{Entry, segment, totalOf, linkOf, extraBytesOf, highest, slotWords, slotCount}
 use Rattle.meaning.specs.Words.{chunks, slots, upto, entries}
 use Rattle.walks.specs.Links.{linked}

@@ -11,7 +11,7 @@ use lib.ListN.{length, getD, take, drop}
 use lib.Seq.{drop-drop, drop-cons, drop-length}
 use lib.Dec.{leb}
 use borrow.Author.Tests.{leb-true, leb-false, le-leb, not-true}
-use Rattle.names.proofs.Bools.{both}
+use Rattle.bools.proofs.Bools.{both}
 use Rattle.meaning.specs.declared.Kind.{Kind}
 use Rattle.meaning.specs.Kinds.{kindOf, isEnd}
 use Rattle.meaning.specs.Words.{Row, segments, segment, slotWords, slotCount, kind, chunks, slots, upto, rowsIn}

@@ -10,7 +10,7 @@ use native.Mathlib.Nat.{add-zero, zero-mul}
 use native.Mathlib.Omega.{arith}
 use lib.Dec.{eqb}
 use borrow.Author.Tests.{eqb-true, not-false}
-use Rattle.names.proofs.Bools.{both, either-side}
+use Rattle.bools.proofs.Bools.{both, either-side}
 use Rattle.meaning.specs.Words.{Row, firstData, segment, linkOf, firstOf, highest, slotWords, slotCount, blocks, entries, total}
 use Rattle.meaning.specs.Words.{chainFrom, chain, segmentRows, rowsOf, rows}
 use Rattle.meaning.specs.Sound.{bad1, bad2, bad3, bad4, bad5, bad6, filled, rule, fault}

@@ -9,7 +9,7 @@ use mathlib.Core.List.{List}
 use mathlib.Core.Option.{Option, none, some}
 use lib.Dec.{eqb, leb}
 use borrow.Author.Tests.{eqb-true, leb-true}
-use Rattle.names.proofs.Bools.{both, either}
+use Rattle.bools.proofs.Bools.{both, either}
 use Rattle.meaning.specs.Requests.{goodChannel}
 use Rattle.meaning.specs.declared.Answer.{Answer}
 use Rattle.meaning.specs.Words.{Row, rows}

@@ -1,6 +1,6 @@
 // What the requests at the door share: the answers, a channel's test, and the one deed that two of them have in common.
-use directory::find::find_entry;
 use edits::change::make_empty;
+use find::find_entry;
 use meaning::Answer;
 use segment::finder::Found;
 use segment::finder::Key;

@@ -9,9 +9,9 @@ use Rattle.meaning.specs.Sound.{fault}
 use Rattle.meaning.specs.Answers.{refuse}
 use Rattle.meaning.specs.Enter.{tidied, areas, eligibles, longestOf, secondOf, wanted, atLeast, longEnough}
 use Rattle.laws.proofs.TidiedSound.{tidied-chain}
-use Rattle.choice.specs.declared.size.Asked.{Asked}
+use Rattle.size.specs.declared.Asked.{Asked}
 use Rattle.choice.specs.declared.choose.Survey.{Survey}
-use Rattle.choice.specs.Asks.{sizeBy, Wanted}
+use Rattle.size.specs.Asks.{sizeBy, Wanted}
 use Rattle.choice.specs.Choice.{allAreas, lengths, Surveyed}
 use Rattle.enter.specs.Entering.{areasOf, placedIn, entering}
 

@@ -3,22 +3,22 @@
 use choice::choose::Chosen;
 use choice::choose::first_fit;
 use choice::choose::survey_areas;
-use choice::size::Asked;
-use choice::size::at_least;
-use choice::size::wanted_of;
 use copying::copy_words;
 use insert::place::Spot;
 use insert::place::enter_area;
 use meaning::Answer;
 use meaning::Name;
 use render::Tentative;
+use size::Asked;
+use size::at_least;
+use size::wanted_of;
 use tidy::tidy::tidy_all;
 ghost use mathlib.Core.Path.{_≡_};
 ghost use lib.ListN.{length, take};
 ghost use Rattle.meaning.specs.Words.{chain};
 ghost use Rattle.meaning.specs.Sound.{fault};
 ghost use Rattle.meaning.specs.Enter.{tidied};
-ghost use Rattle.choice.specs.Asks.{sizeBy};
+ghost use Rattle.size.specs.Asks.{sizeBy};
 ghost use Rattle.enter.specs.Entering.{Entered, placedIn, entering};
 
 // A copy of the directory, tidied. A directory has at most 31 segments.

@@ -1,11 +1,11 @@
 // The requests on a permanent file, by its name: lookup, delete and rename. Any words, any V and any names may be handed in. Each request is
 // refused by its number, in the order of the numbers, or carried out. A refusal answers zeros and changes no word.
-use directory::find::find_entry;
 use directory::sound::fault_of;
 use door::answered;
 use door::empty_found;
 use door::refused;
 use edits::change::give_name;
+use find::find_entry;
 use meaning::Answer;
 use meaning::Name;
 use names::radix::is_legal_name;

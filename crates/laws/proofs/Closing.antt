@@ -12,7 +12,7 @@ use mathlib.Core.Option.{Option, none, some, Option·none-ne-some}
 use lib.ListN.{getD, set}
 use lib.Dec.{eqb}
 use borrow.Author.Tests.{eq-eqb, ne-eqb}
-use Rattle.names.proofs.Bools.{never}
+use Rattle.bools.proofs.Bools.{never}
 use Rattle.meaning.specs.declared.Kind.{Kind}
 use Rattle.meaning.specs.declared.Kind.the-variants.{Tentative, Empty, Permanent}
 use Rattle.meaning.specs.Words.{slotWords, Entry, statusWord, lengthWord, channelWord, kind, blocks, dateOf, Row, rows}

@@ -10,7 +10,7 @@ use lib.ListN.{getD}
 use lib.Dec.{leb}
 use borrow.Author.Tests.{leb-true}
 use Rattle.names.specs.Radix.{legalName}
-use Rattle.names.proofs.Bools.{both}
+use Rattle.bools.proofs.Bools.{both}
 use Rattle.meaning.specs.Words.{blocks, Row, rows}
 use Rattle.meaning.specs.Answers.{find, fileOf, openOn}
 use Rattle.meaning.specs.Requests.{emptying, goodChannel, wordOf, renaming, closing}

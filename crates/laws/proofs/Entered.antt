@@ -13,7 +13,7 @@ use lib.ListN.{length, getD, take, drop, set, length-set, length-append}
 use lib.Seq.{getD-set-same, getD-set-other, take-set-lt, drop-set-lt, getD-append-seam}
 use lib.Dec.{leb, ltb}
 use borrow.Author.Tests.{leb-true, ltb-true}
-use Rattle.names.proofs.Bools.{both}
+use Rattle.bools.proofs.Bools.{both}
 use Rattle.meaning.specs.declared.Kind.the-variants.{Empty}
 use Rattle.meaning.specs.Words.{segments, segment, totalOf, linkOf, extraBytesOf, firstOf, highest, slotWords, slotCount, capacity, Entry}
 use Rattle.meaning.specs.Words.{kind, blocks, chunks, slots, upto, entries, total}

@@ -8,7 +8,7 @@ use mathlib.Core.Option.{Option, none, some}
 use native.Mathlib.Omega.{arith}
 use lib.IntN.{ℤ}
 use Rattle.names.specs.Radix.{legalName}
-use Rattle.names.specs.Dates.{goodDate}
+use Rattle.dates.specs.Dates.{goodDate}
 use Rattle.meaning.specs.Words.{slotWords, Entry, chain, Row}
 use Rattle.meaning.specs.Sound.{fault}
 use Rattle.meaning.specs.Answers.{Outcome, refuse, success, unless, isNone, openOn}

@@ -8,7 +8,7 @@ use native.Mathlib.Omega.{arith}
 use lib.ListN.{length, getD, set}
 use borrow.Author.Tests.{leb-true, le-ltb}
 use Rattle.names.specs.Radix.{spells, legalText, textOf, legalName}
-use Rattle.names.proofs.Bools.{both}
+use Rattle.bools.proofs.Bools.{both}
 use Rattle.meaning.specs.declared.Kind.the-variants.{Empty, Permanent}
 use Rattle.meaning.specs.Kinds.{kindOf}
 use Rattle.meaning.specs.Words.{slotWords, Entry, kind, blocks, dateOf}

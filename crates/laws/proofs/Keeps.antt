@@ -7,7 +7,7 @@ use mathlib.Core.Bool.{Bool, true, false, false≢true}
 use mathlib.Core.List.{List, [], _∷_, map}
 use mathlib.Core.Option.{Option, none, some, Option·map}
 use native.Mathlib.Omega.{arith}
-use Rattle.names.proofs.Bools.{never}
+use Rattle.bools.proofs.Bools.{never}
 use Rattle.meaning.specs.Words.{slotWords, Entry, chain, Row, rows, allEntries}
 use Rattle.meaning.specs.Answers.{find}
 use Rattle.laws.specs.Order.{Key, All}

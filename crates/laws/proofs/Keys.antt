@@ -11,7 +11,7 @@ use native.Mathlib.Decide.{ℕ-discrete}
 use lib.ListN.{getD}
 use lib.Dec.{eqb}
 use borrow.Author.Tests.{eqb-true, eq-eqb}
-use Rattle.names.proofs.Bools.{both, neither, never}
+use Rattle.bools.proofs.Bools.{both, neither, never}
 use Rattle.meaning.specs.declared.Kind.{Kind}
 use Rattle.meaning.specs.declared.Kind.the-variants.{Tentative, Empty, Permanent, End, Unknown}
 use Rattle.meaning.specs.Kinds.{isTentative, isPermanent}

@@ -10,7 +10,7 @@ use native.Mathlib.Nat.{add-zero, add-assoc}
 use native.Mathlib.Omega.{arith}
 use lib.Dec.{eqb}
 use borrow.Author.Tests.{eqb-true}
-use Rattle.names.proofs.Bools.{both}
+use Rattle.bools.proofs.Bools.{both}
 use Rattle.meaning.specs.Words.{firstData, segment, firstOf, slotWords, Entry, kind, blocks, entries, total, chain}
 use Rattle.meaning.specs.Words.{Row, rowsIn, segmentRows, rowsOf, rows, entriesOf, allEntries}
 use Rattle.meaning.specs.Sound.{filled}

@@ -8,7 +8,7 @@ use mathlib.Core.Logic.{inl, inr}
 use mathlib.Core.Bool.{true, false}
 use mathlib.Core.List.{List, [], _∷_}
 use lib.ListN.{set}
-use Rattle.names.proofs.Bools.{never}
+use Rattle.bools.proofs.Bools.{never}
 use Rattle.meaning.specs.Words.{slotWords, Entry, statusWord, nameWord, name2Word, extensionWord, blocks, dateOf, Row, rows}
 use Rattle.meaning.specs.Sound.{longName}
 use Rattle.meaning.specs.Answers.{Write, put, write}

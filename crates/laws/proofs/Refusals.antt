@@ -11,8 +11,8 @@ use lib.IntN.{ℤ}
 use lib.Dec.{eqb, leb}
 use borrow.Author.Tests.{eqb-true}
 use Rattle.names.specs.Radix.{legalName}
-use Rattle.names.specs.Dates.{goodDate}
-use Rattle.names.proofs.Bools.{either}
+use Rattle.dates.specs.Dates.{goodDate}
+use Rattle.bools.proofs.Bools.{either}
 use Rattle.meaning.specs.declared.Op.{Op}
 use Rattle.meaning.specs.declared.Op.the-variants.{Lookup, Enter, Close, Abandon, Delete, Rename}
 use Rattle.meaning.specs.declared.Request.{Request}

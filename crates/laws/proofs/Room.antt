@@ -12,7 +12,7 @@ use lib.IntN.{ℤ, pos, negsuc}
 use lib.ListN.{length, getD, take}
 use lib.Dec.{eqb, leb, ltb}
 use borrow.Author.Tests.{leb-true, le-leb, ltb-true, lt-ltb, eqb-false}
-use Rattle.names.proofs.Bools.{both, either}
+use Rattle.bools.proofs.Bools.{both, either}
 use Rattle.meaning.specs.Words.{segments, segment, linkOf, firstOf, highest, slotWords, capacity, Entry, entries, chainFrom, reached, chain}
 use Rattle.meaning.specs.Sound.{any, fault}
 use Rattle.meaning.specs.Answers.{Outcome, refuse, success}

@@ -8,7 +8,7 @@ use mathlib.Core.List.{List, [], _∷_, _++_, map, map-append}
 use mathlib.Core.Option.{none, some, Option·map, Option·none-ne-some}
 use native.Mathlib.Omega.{arith}
 use lib.ListN.{length}
-use Rattle.names.proofs.Bools.{neither}
+use Rattle.bools.proofs.Bools.{neither}
 use Rattle.meaning.specs.declared.Kind.{Kind}
 use Rattle.meaning.specs.declared.Kind.the-variants.{Tentative, Empty, Permanent, End, Unknown}
 use Rattle.meaning.specs.Kinds.{isTentative, isEnd}

@@ -11,7 +11,7 @@ use mathlib.Core.Logic.{⊎-elim}
 use mathlib.Core.List.{List}
 use lib.Dec.{eqb}
 use borrow.Author.Tests.{eqb-true, eq-eqb, ne-eqb, not-false}
-use Rattle.names.proofs.Bools.{both, neither}
+use Rattle.bools.proofs.Bools.{both, neither}
 use Rattle.meaning.specs.Words.{segment, totalOf, extraBytesOf, highest, chainFrom, reached, chain}
 use Rattle.meaning.specs.Sound.{any, times, eachOnce, differs, bad3}
 use Rattle.laws.specs.Sound.{visit, VisitedOnce, Rule3}

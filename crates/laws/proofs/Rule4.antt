@@ -17,7 +17,7 @@ use Rattle.meaning.specs.Kinds.{isTentative, isEmpty, isPermanent}
 use Rattle.meaning.specs.Words.{segment, slotWords, Entry, kind, slots, chain}
 use Rattle.meaning.specs.Sound.{longName, badSlots, bad4}
 use Rattle.laws.specs.Sound.{visit, IsEntry, ShortName, Readable, Rule4}
-use Rattle.names.proofs.Bools.{neither, never}
+use Rattle.bools.proofs.Bools.{neither, never}
 use Rattle.walks.proofs.Lists.{chain-at, chain-length, any-none, none-any}
 use Rattle.walks.specs.Scan.{badBy, longNamed, scanBad}
 use Rattle.walks.proofs.Scanned.{bad-scan}

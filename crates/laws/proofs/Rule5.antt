@@ -9,7 +9,7 @@ use mathlib.Core.Bool.{true, false, not}
 use mathlib.Core.List.{List}
 use lib.Dec.{eqb}
 use borrow.Author.Tests.{eqb-true, eq-eqb, not-false}
-use Rattle.names.proofs.Bools.{both}
+use Rattle.bools.proofs.Bools.{both}
 use Rattle.meaning.specs.Words.{segments, firstData, segment, firstOf, highest, entries, total, chainFrom, reached, chain}
 use Rattle.meaning.specs.Sound.{bad1, bad2, filled, bad5}
 use Rattle.walks.proofs.Heads.{sized, sized-tested, headed, headed-tested}

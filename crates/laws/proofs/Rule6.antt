@@ -10,14 +10,14 @@ use native.Mathlib.Nat.{suc-ne-zero, suc-inj, le-of-suc-le-suc, not-suc-le-zero}
 use lib.ListN.{length, getD}
 use lib.Dec.{eqb}
 use borrow.Author.Tests.{eqb-true, eq-eqb}
-use Rattle.names.proofs.Bools.{both, either}
+use Rattle.bools.proofs.Bools.{both, either}
 use Rattle.meaning.specs.declared.Kind.{Kind}
 use Rattle.meaning.specs.declared.Kind.the-variants.{Tentative, Empty, Permanent, End, Unknown}
 use Rattle.meaning.specs.Kinds.{isTentative, isPermanent}
 use Rattle.meaning.specs.Words.{Entry, kind, channelOf, named, allEntries}
 use Rattle.meaning.specs.Sound.{any, clash, clashes, bad6}
 use Rattle.laws.specs.Sound.{SameName, Rule6}
-use Rattle.names.proofs.Bools.{neither, never}
+use Rattle.bools.proofs.Bools.{neither, never}
 use Rattle.walks.proofs.Lists.{any-none, none-any}
 
 -- the kind that a test tells

@@ -9,7 +9,7 @@ use native.Mathlib.Nat.{le-of-suc-le-suc, not-suc-le-zero}
 use native.Mathlib.Omega.{arith}
 use lib.ListN.{length, getD, take, drop, length-append, length-take, length-drop, take-append-drop, List·getD-append}
 use lib.Seq.{getD-take, getD-drop, getD-append-add, getD-append-seam, drop-drop, take-append-seam, drop-append-seam}
-use Rattle.names.proofs.Bools.{never}
+use Rattle.bools.proofs.Bools.{never}
 use Rattle.meaning.specs.declared.Kind.{Kind}
 use Rattle.meaning.specs.declared.Kind.the-variants.{Tentative, Empty}
 use Rattle.meaning.specs.Kinds.{isTentative}

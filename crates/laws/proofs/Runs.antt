@@ -10,7 +10,7 @@ use native.Mathlib.Omega.{arith}
 use lib.ListN.{length, set}
 use lib.Dec.{eqb}
 use borrow.Author.Tests.{ne-eqb, not-true}
-use Rattle.names.proofs.Bools.{both}
+use Rattle.bools.proofs.Bools.{both}
 use Rattle.meaning.specs.Kinds.{isTentative}
 use Rattle.meaning.specs.Words.{Entry, lengthWord, kind, blocks, total}
 use Rattle.meaning.specs.Enter.{isArea, joinTo, joined, dropZero, tidy}

@@ -9,7 +9,7 @@ use native.Mathlib.Omega.{arith}
 use lib.ListN.{length}
 use lib.Dec.{eqb, leb}
 use borrow.Author.Tests.{eqb-true, leb-true, not-false}
-use Rattle.names.proofs.Bools.{both, neither}
+use Rattle.bools.proofs.Bools.{both, neither}
 use Rattle.meaning.specs.Words.{segments, firstData, segment, totalOf, linkOf, extraBytesOf, firstOf, highest, slotWords, Entry, slots}
 use Rattle.meaning.specs.Words.{entries, total, chainFrom, chain, entriesOf, allEntries}
 use Rattle.meaning.specs.Sound.{any, bad1, bad2, bad3, badSlots, bad4, filled, bad5, bad6, rule, fault}

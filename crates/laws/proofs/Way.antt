@@ -12,7 +12,7 @@ use native.Mathlib.Decide.{ℕ-discrete}
 use lib.ListN.{length}
 use lib.Dec.{eqb, leb}
 use borrow.Author.Tests.{eqb-true, leb-true, eq-eqb, ne-eqb, le-leb}
-use Rattle.names.proofs.Bools.{both}
+use Rattle.bools.proofs.Bools.{both}
 use Rattle.meaning.specs.Words.{firstData, segment, totalOf, linkOf, extraBytesOf, firstOf, highest, slotWords, Entry, slots, upto}
 use Rattle.meaning.specs.Words.{entries, total, chainFrom, chain, entriesOf, allEntries}
 use Rattle.meaning.specs.Sound.{bad1, bad2, filled, times}

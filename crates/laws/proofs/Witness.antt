@@ -9,7 +9,7 @@ use mathlib.Core.List.{List, [], _∷_, _++_, map, List·Permᴰ}
 use lib.ListN.{getD}
 use lib.Dec.{eqb}
 use borrow.Author.Tests.{eqb-false, not-true}
-use Rattle.names.proofs.Bools.{both}
+use Rattle.bools.proofs.Bools.{both}
 use lib.IntN.{ℤ, pos}
 use Rattle.names.specs.Text.{bytes}
 use Rattle.names.specs.Radix.{alphabet, shown, spelled, textOf, inName, blank, padded, legalText, spells, legalName}

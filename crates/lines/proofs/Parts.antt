@@ -7,7 +7,7 @@ use mathlib.Core.Bool.{Bool, true, false, cond}
 use mathlib.Core.List.{List, _++_, append-assoc}
 use lib.ListN.{getD}
 use Rattle.names.specs.Text.{bytes}
-use Rattle.names.specs.Dates.{years, inCalendar, dayField, monthField, namesDay}
+use Rattle.dates.specs.Dates.{years, inCalendar, dayField, monthField, namesDay}
 use Rattle.meaning.specs.Kinds.{isEmpty, isTentative, isPermanent}
 use Rattle.meaning.specs.Words.{segments, extraBytesOf, highest, Entry, nameWord, name2Word, extensionWord, kind, blocks, dateOf}
 use Rattle.meaning.specs.Words.{Row, allEntries}

@@ -11,10 +11,10 @@ use lib.Seq.{length-take-le}
 use borrow.Author.Tests.{le-leb}
 use Rattle.names.specs.Text.{bytes}
 use Rattle.names.specs.Radix.{textOf, spells, textOfWords}
-use Rattle.names.specs.Dates.{years, dayField, monthField, namesDay, dayOfWord}
+use Rattle.dates.specs.Dates.{years, dayField, monthField, namesDay, dayOfWord}
 use Rattle.names.specs.declared.radix.NameText.{NameText}
-use Rattle.names.specs.declared.dates.WordDay.{WordDay}
-use Rattle.names.proofs.Days.{Calendar, calendar-parts, named-parts}
+use Rattle.dates.specs.declared.WordDay.{WordDay}
+use Rattle.dates.proofs.Days.{Calendar, calendar-parts, named-parts}
 use Rattle.names.proofs.Names.{last-three}
 use Rattle.meaning.specs.Listing.{decimal, twoDigits, dateText}
 use Rattle.lines.specs.Wrote.{Wrote, WroteAtMost}

@@ -66,7 +66,7 @@ fn date_text(out: &mut [u8], at: usize, word: u16) -> usize
     requires { ⌜ at + 11 ≤ length (now out) ⌝ }
     ensures { λ r. ⌜ WroteAtMost 10 (now (out .entry)) at (dateText word) (now (out .exit)) r ⌝ }
 {
-    let date = names::dates::day_of_word(word);
+    let date = dates::day_of_word(word);
     if date.day == 0 {
         return put_bytes(out, at, b"----------");
     }

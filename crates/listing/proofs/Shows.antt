@@ -10,7 +10,7 @@ use native.Mathlib.Nat.{mul-le-mul-left, div-mul-le-self}
 use lib.ListN.{length, getD, drop, length-append}
 use lib.Dec.{ltb}
 use borrow.Author.Tests.{ltb-false}
-use Rattle.names.proofs.Bools.{neither}
+use Rattle.bools.proofs.Bools.{neither}
 use Rattle.meaning.specs.Kinds.{isEmpty}
 use Rattle.meaning.specs.Words.{segment, firstOf, highest, slotWords, slotCount, Entry, nameWord, name2Word, extensionWord, kind, blocks}
 use Rattle.meaning.specs.Words.{chunks, slots, entries, chain, Row, rowsIn, segmentRows, rowsOf, rows}

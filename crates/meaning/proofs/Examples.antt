@@ -5,8 +5,8 @@ use mathlib.Core.Bool.{true}
 use Rattle.names.specs.Text.{bytes}
 use Rattle.names.specs.Radix.{alphabet, shown, place, codeOf, packed, packedAt, spelled, textOf, inName, inText, blank}
 use Rattle.names.specs.Radix.{padded, legalText, spells, legalName, wordsOfText, textOfWords}
-use Rattle.names.specs.Dates.{years, monthLengths, isLeap, daysIn, inCalendar, dateWord, dayField, monthField, namesDay}
-use Rattle.names.specs.Dates.{goodDate, wordOfDay}
+use Rattle.dates.specs.Dates.{years, monthLengths, isLeap, daysIn, inCalendar, dateWord, dayField, monthField, namesDay}
+use Rattle.dates.specs.Dates.{goodDate, wordOfDay}
 use Rattle.meaning.specs.Kinds.{kindOf}
 use Rattle.meaning.specs.Words.{segment, capacity, named, chunks, slots, upto, entries, total, chainFrom, reached, chain}
 use Rattle.meaning.specs.Words.{rowsIn, segmentRows, rowsOf, rows, entriesOf, allEntries}

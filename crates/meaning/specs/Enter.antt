@@ -7,7 +7,7 @@ use lib.ListN.{length, getD, take, drop, set}
 use lib.IntN.{ℤ, pos, negsuc}
 use lib.Dec.{eqb, leb, ltb}
 use Rattle.names.specs.Radix.{legalName}
-use Rattle.names.specs.Dates.{goodDate}
+use Rattle.dates.specs.Dates.{goodDate}
 use Rattle.meaning.specs.Kinds.{isTentative, isEmpty}
 use Rattle.meaning.specs.Words.{segments, segment, totalOf, linkOf, extraBytesOf, firstOf, highest, slotWords, capacity, Entry}
 use Rattle.meaning.specs.Words.{lengthWord, kind, blocks, entries, total, chain}

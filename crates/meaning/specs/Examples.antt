@@ -9,7 +9,7 @@ use lib.IntN.{ℤ, pos, negsuc}
 use lib.Dec.{eqb}
 use Rattle.names.specs.Text.{bytes}
 use Rattle.names.specs.Radix.{wordsOfText}
-use Rattle.names.specs.Dates.{wordOfDay}
+use Rattle.dates.specs.Dates.{wordOfDay}
 use Rattle.meaning.specs.declared.Op.{Op}
 use Rattle.meaning.specs.declared.Op.the-variants.{Lookup, Enter, Close, Abandon, Delete, Rename}
 use Rattle.meaning.specs.declared.Name.{Name}

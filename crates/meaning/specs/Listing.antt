@@ -7,7 +7,7 @@ use lib.ListN.{length, getD, take, drop, replicate}
 use lib.Dec.{eqb, leb, ltb}
 use Rattle.names.specs.Text.{bytes}
 use Rattle.names.specs.Radix.{textOf}
-use Rattle.names.specs.Dates.{namesDay, dayOfWord}
+use Rattle.dates.specs.Dates.{namesDay, dayOfWord}
 use Rattle.meaning.specs.declared.Kind.{Kind}
 use Rattle.meaning.specs.declared.Kind.the-variants.{Tentative, Empty, Permanent, End, Unknown}
 use Rattle.meaning.specs.Kinds.{isTentative, isEmpty, isPermanent}

@@ -5,9 +5,6 @@ use mathlib.Core.Path.{_≡_, sym, _∙_}
 use Rattle.names.proofs.radix.words_of_text.Reads as words-of-text
 use Rattle.names.proofs.radix.text_of_words.Reads as text-of-words
 use Rattle.names.proofs.radix.is_legal_name.Reads as is-legal-name
-use Rattle.names.proofs.dates.word_of_day.Reads as word-of-day
-use Rattle.names.proofs.dates.day_of_word.Reads as day-of-word
-use Rattle.names.proofs.dates.is_good_date.Reads as is-good-date
 
 pub words-of-text-determined : (κs : _) (a : _) (r r′ : _) (s s′ : _) → words-of-text.Post κs a r s → words-of-text.Post κs a r′ s′ → r ≡ r′
 words-of-text-determined κs a r r′ s s′ p q = p ∙ sym q
@@ -17,12 +14,3 @@ text-of-words-determined κs a r r′ s s′ p q = p ∙ sym q
 
 pub is-legal-name-determined : (κs : _) (a : _) (r r′ : _) (s s′ : _) → is-legal-name.Post κs a r s → is-legal-name.Post κs a r′ s′ → r ≡ r′
 is-legal-name-determined κs a r r′ s s′ p q = p ∙ sym q
-
-pub word-of-day-determined : (κs : _) (a : _) (r r′ : _) (s s′ : _) → word-of-day.Post κs a r s → word-of-day.Post κs a r′ s′ → r ≡ r′
-word-of-day-determined κs a r r′ s s′ p q = p ∙ sym q
-
-pub day-of-word-determined : (κs : _) (a : _) (r r′ : _) (s s′ : _) → day-of-word.Post κs a r s → day-of-word.Post κs a r′ s′ → r ≡ r′
-day-of-word-determined κs a r r′ s s′ p q = p ∙ sym q
-
-pub is-good-date-determined : (κs : _) (a : _) (r r′ : _) (s s′ : _) → is-good-date.Post κs a r s → is-good-date.Post κs a r′ s′ → r ≡ r′
-is-good-date-determined κs a r r′ s s′ p q = p ∙ sym q

@@ -20,8 +20,8 @@ use Rattle.names.specs.declared.radix.Field.{Field}
 use Rattle.names.specs.declared.radix.Field.the-variants.{Characters, Spaces, Wrong}
 use Rattle.names.specs.declared.radix.NameWords.{NameWords}
 use Rattle.names.specs.declared.radix.NameText.{NameText}
-use Rattle.names.proofs.Bools.{both, either, either-side}
-use Rattle.names.proofs.Below.{every, below}
+use Rattle.bools.proofs.Bools.{both, either, either-side}
+use Rattle.bools.proofs.Below.{every, below}
 
 -- the alphabet's rule: no byte stands in it twice
 pub code-shown : (c : ℕ) → c < 40 → codeOf (shown c) ≡ c

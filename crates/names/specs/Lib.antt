@@ -1,4 +1,3 @@
 pub mod Text
 pub mod Radix
-pub mod Dates
 pub mod Steps

@@ -3,21 +3,12 @@
 -- two are joined through its right side.
 use mathlib.Core.Path.{_≡_, sym, _∙_}
 use denote.Ref.{now}
-use Rattle.requests.proofs.fault.Reads as fault
 use Rattle.requests.proofs.enter.Reads as enter
-use Rattle.requests.proofs.fresh.Reads as fresh
 use Rattle.requests.proofs.serve.Reads as serve
-
-pub fault-determined : (κs : _) (a : _) (r r′ : _) (s s′ : _) → fault.Post κs a r s → fault.Post κs a r′ s′ → r ≡ r′
-fault-determined κs a r r′ s s′ p q = p ∙ sym q
 
 pub enter-determined : (κs : _) (a : _) (r r′ : _) (s s′ : _) → enter.Post κs a r s → enter.Post κs a r′ s′
     → (r ≡ r′) × (now (s .0) ≡ now (s′ .0))
 enter-determined κs a r r′ s s′ p q = (p .answer ∙ sym (q .answer), p .words ∙ sym (q .words))
-
-pub fresh-determined : (κs : _) (a : _) (r r′ : _) (s s′ : _) → fresh.Post κs a r s → fresh.Post κs a r′ s′
-    → (r ≡ r′) × (now (s .0) ≡ now (s′ .0))
-fresh-determined κs a r r′ s s′ p q = (p .answer ∙ sym (q .answer), p .words ∙ sym (q .words))
 
 pub serve-determined : (κs : _) (a : _) (r r′ : _) (s s′ : _) → serve.Post κs a r s → serve.Post κs a r′ s′
     → (r ≡ r′) × (now (s .0) ≡ now (s′ .0))

@@ -7,7 +7,7 @@ use mathlib.Core.List.{List}
 use mathlib.Core.Option.{none}
 use lib.IntN.{ℤ}
 use Rattle.names.specs.Radix.{legalName}
-use Rattle.names.specs.Dates.{goodDate}
+use Rattle.dates.specs.Dates.{goodDate}
 use Rattle.meaning.specs.declared.Name.{Name}
 use Rattle.meaning.specs.Sound.{fault}
 use Rattle.meaning.specs.Answers.{Outcome, refuse, isNone, openOn}

@@ -1,25 +1,20 @@
 // The requests of document 01 at the door: any words, any V, any request may be handed in. Each is refused by its number, in the order of
 // the numbers, or carried out by the engine behind, which tests nothing again. A refusal answers zeros and changes no word.
-use chain::head::size_wrong;
-use choice::size::is_good_size;
-use choice::size::size_of;
-use directory::find::find_entry;
+use dates::is_good_date;
 use directory::sound::fault_of;
 use door::is_channel;
 use door::refused;
-use edits::fresh::start_fresh;
 use enter::enter_file;
+use find::find_entry;
 use meaning::Answer;
 use meaning::Name;
 use meaning::Op;
 use meaning::Request;
-use names::dates::is_good_date;
 use names::radix::is_legal_name;
 use segment::finder::Found;
 use segment::finder::Key;
-ghost use mathlib.Core.Path.{_≡_};
-ghost use Rattle.meaning.specs.Sound.{fault};
-ghost use Rattle.meaning.specs.Requests.{fresh};
+use size::is_good_size;
+use size::size_of;
 ghost use Rattle.meaning.specs.Enter.{enter};
 ghost use Rattle.meaning.specs.Batch.{serve};
 ghost use Rattle.door.specs.Door.{Meets};
@@ -28,13 +23,8 @@ pub use channels::close;
 pub use files::delete;
 pub use files::lookup;
 pub use files::rename;
-
-// The number of the smallest fault, 1 to 6, or 0 for a sound directory.
-pub fn fault(d: &[u16], v: usize) -> u16
-    ensures { λ r. ⌜ r ≡ fault v (now (d .entry)) ⌝ }
-{
-    fault_of(d, v)
-}
+pub use volume::fault;
+pub use volume::fresh;
 
 // A size is -1 for the longest, 0 for RT-11's default, or 1 to 65,535 blocks.
 pub fn enter(
@@ -70,26 +60,6 @@ pub fn enter(
     match found {
         Found::At(_) => refused(10),
         Found::Nothing => enter_file(d, v, name, asked, word, date),
-    }
-}
-
-// A fresh start tests only 1, and then 2 for more than 16 extra words.
-pub fn fresh(d: &mut [u16], v: usize, extra: usize) -> Answer
-    ensures { λ r. ⌜ Meets r (now (d .exit)) (fresh v (now (d .entry)) extra) ⌝ }
-{
-    if size_wrong(v, d.len()) {
-        return refused(1);
-    }
-    if 16 < extra {
-        return refused(2);
-    }
-    let first = 6 + 2 * (d.len() / 512);
-    start_fresh(d, v, extra);
-    Answer {
-        number: 0,
-        first: first as u16,
-        length: (v - first) as u16,
-        date: 0,
     }
 }
 

@@ -4,11 +4,11 @@
 ghost use mathlib.Core.Path.{_≡_};
 ghost use Prim.Native.Nat.{_<_};
 ghost use lib.ListN.{length};
+use dates::day_of_word;
+use dates::is_good_date;
+use dates::word_of_day;
 use libc::STDIN_FILENO;
 use libc::STDOUT_FILENO;
-use names::dates::day_of_word;
-use names::dates::is_good_date;
-use names::dates::word_of_day;
 use names::radix::is_legal_name;
 use names::radix::text_of_words;
 use names::radix::words_of_text;

@@ -8,7 +8,7 @@ use mathlib.Core.Bool.{true, false}
 use mathlib.Core.List.{List, [], _∷_}
 use lib.Dec.{eqb}
 use borrow.Author.Tests.{eqb-true, ne-eqb, not-false}
-use Rattle.names.proofs.Bools.{both}
+use Rattle.bools.proofs.Bools.{both}
 use Rattle.meaning.specs.Words.{segments, firstData, segment, extraBytesOf, firstOf, highest, slotWords, capacity}
 use Rattle.meaning.specs.Words.{entries, total, chain}
 use Rattle.meaning.specs.Sound.{times, filled, bad5}

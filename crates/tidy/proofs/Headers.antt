@@ -11,7 +11,7 @@ use mathlib.Core.List.{List}
 use lib.ListN.{length, getD}
 use lib.Dec.{eqb, leb}
 use borrow.Author.Tests.{leb-true, eqb-true, ne-eqb, not-false}
-use Rattle.names.proofs.Bools.{both, neither}
+use Rattle.bools.proofs.Bools.{both, neither}
 use Rattle.meaning.specs.Words.{segment, totalOf, linkOf, extraBytesOf, highest, slotWords, reached, chainFrom, chain}
 use Rattle.meaning.specs.Sound.{any, times, eachOnce, differs, bad3}
 use Rattle.walks.specs.Links.{linked}

@@ -12,7 +12,7 @@ use lib.ListN.{length, getD, take, drop, set, length-set, length-append}
 use lib.Seq.{drop-drop, getD-set-other}
 use lib.Dec.{eqb, ltb}
 use borrow.Author.Tests.{lt-ltb, le-ltb}
-use Rattle.names.proofs.Bools.{either-side}
+use Rattle.bools.proofs.Bools.{either-side}
 use Rattle.meaning.specs.Kinds.{kindOf, isTentative, isEnd}
 use Rattle.meaning.specs.Words.{Entry, lengthWord, kind, blocks, slotCount, chunks, slots, upto, total}
 use Rattle.meaning.specs.Requests.{flat}

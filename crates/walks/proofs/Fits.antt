@@ -10,7 +10,7 @@ use mathlib.Core.List.{List, [], _∷_, map}
 use mathlib.Core.Option.{Option, none, some}
 use lib.Dec.{leb}
 use borrow.Author.Tests.{le-leb, lt-leb, not-true}
-use Rattle.names.proofs.Bools.{either-side}
+use Rattle.bools.proofs.Bools.{either-side}
 use Rattle.meaning.specs.Sound.{any}
 use Rattle.meaning.specs.Answers.{isNone}
 use Rattle.meaning.specs.Enter.{Size, longest, default, wrong, exact, Area, longestOf, wanted, atLeast, longEnough, firstFit}

@@ -6,7 +6,7 @@ use mathlib.Core.List.{List}
 use lib.ListN.{length}
 use lib.Dec.{eqb, leb}
 use borrow.Author.Tests.{leb-true, eqb-true, le-leb, eq-eqb, not-false}
-use Rattle.names.proofs.Bools.{both}
+use Rattle.bools.proofs.Bools.{both}
 use Rattle.meaning.specs.Words.{segments, firstData, totalOf, highest, extraBytesOf}
 use Rattle.meaning.specs.Sound.{bad1, bad2}
 use Rattle.walks.specs.Heads.{Sized, Headed}

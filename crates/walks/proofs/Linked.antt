@@ -12,7 +12,7 @@ use mathlib.Core.List.{List, [], _∷_}
 use lib.ListN.{length}
 use lib.Dec.{eqb, leb, ltb, leb·suc-suc}
 use borrow.Author.Tests.{eqb-true, leb-true, leb-false, eq-eqb, ne-eqb, lt-ltb, le-ltb, ltb-false}
-use Rattle.names.proofs.Bools.{both}
+use Rattle.bools.proofs.Bools.{both}
 use Rattle.meaning.specs.Words.{segment, totalOf, linkOf, extraBytesOf, highest, chainFrom, reached, chain}
 use Rattle.meaning.specs.Sound.{any, times, eachOnce, differs, bad3}
 use Rattle.walks.specs.Links.{linked}

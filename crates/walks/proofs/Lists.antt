@@ -9,7 +9,7 @@ use mathlib.Core.List.{List, [], _∷_}
 use lib.ListN.{length, getD}
 use Rattle.meaning.specs.Words.{segment, linkOf, chainFrom, reached}
 use Rattle.meaning.specs.Sound.{any}
-use Rattle.names.proofs.Bools.{neither}
+use Rattle.bools.proofs.Bools.{neither}
 
 -- the segment that segment s links to
 abbrev pub next : List ℕ → ℕ → ℕ

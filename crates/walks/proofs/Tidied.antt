@@ -11,7 +11,7 @@ use lib.ListN.{length, drop, set, length-take, length-drop, length-set}
 use lib.Seq.{getD-set-same, getD-set-other, set-getD, set-set}
 use lib.Dec.{eqb}
 use borrow.Author.Tests.{eqb-true}
-use Rattle.names.proofs.Bools.{both}
+use Rattle.bools.proofs.Bools.{both}
 use Rattle.meaning.specs.Kinds.{isTentative, isEnd}
 use Rattle.meaning.specs.Words.{Entry, lengthWord, kind, blocks, slotWords, segment, chunks, slots, upto, entries, total}
 use Rattle.meaning.specs.Enter.{isArea, joinTo, joined, dropZero, tidy}

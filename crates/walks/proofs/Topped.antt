@@ -9,7 +9,7 @@ use mathlib.Core.Logic.{⊎-elim}
 use mathlib.Core.List.{List, [], _∷_}
 use lib.Dec.{eqb, leb·zero}
 use borrow.Author.Tests.{le-leb, lt-leb, eq-eqb, ne-eqb}
-use Rattle.names.proofs.Bools.{either-side}
+use Rattle.bools.proofs.Bools.{either-side}
 use Rattle.meaning.specs.Enter.{longestOf, without, secondOf}
 use Rattle.walks.specs.Top.{top}
 

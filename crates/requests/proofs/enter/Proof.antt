@@ -10,12 +10,12 @@ use Prim.Native.Nat.{_+_, _*_}
 use mir.Syntax.{w32}
 use mir.ValLaws.{toZ-ofZ}
 use Rattle.names.specs.Radix.{legalName}
-use Rattle.names.specs.Dates.{goodDate}
+use Rattle.dates.specs.Dates.{goodDate}
 use Rattle.meaning.specs.Sound.{fault}
 use Rattle.meaning.specs.Answers.{refuse, isNone, openOn}
 use Rattle.meaning.specs.Requests.{goodChannel, wordOf}
 use Rattle.meaning.specs.Enter.{Size, sizeOf, goodSize, enter}
-use Rattle.choice.specs.Asks.{sizeBy}
+use Rattle.size.specs.Asks.{sizeBy}
 use Rattle.chain.proofs.Chains.{fault-chained}
 use Rattle.enter.specs.Entering.{entering}
 use Rattle.door.proofs.Doors.{answer-of, words-of, faulty, open-found, open-none, channel-fits}
