@@ -30,7 +30,8 @@ module _ {M : Type 1} (𝓤 : URA M) where
       let P = fact 𝓤 (Ran r d us b) in
       let Q = fact 𝓤 (Ran r′ d′ us′ b) in
       fact-use 𝓤 (Ran r d us b) (fst∗ 𝓤 P Q) (λ p. fact-use 𝓤 (Ran r′ d′ us′ b) (snd∗ 𝓤 P Q) (λ q.
-      factI 𝓤 ((r ≡ r′) × (d ≡ d′) × (us ≡ us′)) (sep 𝓤 P Q) (p .is ∙ sym (q .is), p .after ∙ sym (q .after), p .answered ∙ sym (q .answered))))
+      factI 𝓤 ((r ≡ r′) × (d ≡ d′) × (us ≡ us′)) (sep 𝓤 P Q)
+      (p .is ∙ sym (q .is), p .after ∙ sym (q .after), p .answered ∙ sym (q .answered))))
 
   module _ (H : Heap 𝓤) (A : Atoms 𝓤) (mem : Memory → SProp 𝓤) (run : Routine → Fun 𝓤) where
     pub run-determined : (κs : _) (a : _) (r r′ : _) (s s′ : _)

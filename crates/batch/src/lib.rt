@@ -1,9 +1,10 @@
 // The batch: request records one by one in slice order, each answered in its place. The borrow checker covers no function over a slice
 // of structs, so `run` and `run_part` are thin and proved by hand; `run_some`, with plain parameters, stands above them for all callers
 // that have their records in arrays.
+use directory::sound::fault_of;
+use engine::serve_known;
 use meaning::Answer;
 use meaning::Request;
-use requests::serve;
 ghost use mathlib.Core.Path.{_≡_};
 ghost use Prim.Native.Nat.{_≤_, min};
 ghost use lib.ListN.{take, drop};
@@ -17,16 +18,17 @@ pub struct Part {
 }
 
 // Each request meets the words that the one before it left, and a refusal stops nothing. 18, and nothing done, where the slices differ
-// in length.
+// in length. No request changes the directory's fault, so it is tested once, before the first.
 pub fn run(d: &mut [u16], v: usize, requests: &[Request], answers: &mut [Answer]) -> u16
     ensures { λ r. ⌜ Ran r (now (d .exit)) (now (answers .exit)) (batch v (now (d .entry)) (now (requests .entry)) (now (answers .entry))) ⌝ }
 {
     if requests.len() != answers.len() {
         return 18;
     }
+    let number = fault_of(&*d, v);
     let mut i: usize = 0;
     while i < requests.len() {
-        answers[i] = serve(&mut *d, v, requests[i]);
+        answers[i] = serve_known(&mut *d, v, number, requests[i]);
         i += 1;
     }
     0

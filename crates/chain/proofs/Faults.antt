@@ -38,6 +38,19 @@ pub fault-is : (v : ℕ) (d : List ℕ) → faultBy (bad1 v d) (bad2 d) (bad3 d)
 unfolding fault measureOf
 fault-is v d = by-tests (bad1 v d) (bad2 d) (bad3 d) (bad4 d) (bad5 v d) (bad6 d)
 
+by-five : (a b c x y z : Bool) → first a b c x y z ≡ 0 → y ≡ false
+by-five true b c x y z e = absurd (omega arith)
+by-five false true c x y z e = absurd (omega arith)
+by-five false false true x y z e = absurd (omega arith)
+by-five false false false true y z e = absurd (omega arith)
+by-five false false false false true z e = absurd (omega arith)
+by-five false false false false false z e = refl
+
+-- where there is no fault, the segments fill the blocks up to V
+pub fifth : (v : ℕ) (d : List ℕ) → fault v d ≡ 0 → bad5 v d ≡ false
+unfolding fault
+fifth v d e = by-five (bad1 v d) (bad2 d) (bad3 d) (bad4 d) (bad5 v d) (bad6 d) e
+
 by-three : (a b c x y z : Bool) → first a b c x y z ≡ 0 → (a ≡ false) × (b ≡ false) × (c ≡ false)
 by-three true b c x y z e = absurd (omega arith)
 by-three false true c x y z e = absurd (omega arith)

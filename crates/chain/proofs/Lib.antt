@@ -2,3 +2,4 @@ pub mod Links
 pub mod Faults
 pub mod Chains
 pub mod Measuring
+pub mod Replaced

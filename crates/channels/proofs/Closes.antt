@@ -5,16 +5,20 @@ use mathlib.Core.Path.{_≡_, refl, sym, ap, _∙_}
 use mathlib.Core.List.{List, [], _∷_, _++_}
 use mathlib.Core.Option.{Option, none, some}
 use native.Mathlib.Omega.{arith}
-use lib.ListN.{length, getD, set}
-use Rattle.meaning.specs.Words.{Row, slotWords, lengthWord, blocks, dateOf, rows}
+use lib.ListN.{length, getD, take, drop, set}
+use Rattle.meaning.specs.declared.Name.{Name}
+use Rattle.meaning.specs.Kinds.{permanentStatus}
+use Rattle.meaning.specs.Words.{Row, slotWords, statusWord, lengthWord, channelWord, nameOf, blocks, dateOf, rows}
 use Rattle.meaning.specs.Sound.{fault}
-use Rattle.meaning.specs.Answers.{Write, put, write, find, permanentNamed, fileOf, openOn, tentativeOn}
+use Rattle.meaning.specs.Answers.{Write, put, write, find, fileOf, openOn}
 use Rattle.meaning.specs.Requests.{emptying, replacing, closing}
-use Rattle.segment.specs.declared.finder.Key.the-variants.{File}
+use Rattle.meaning.specs.declared.Key.the-variants.{File, Open}
+use Rattle.meaning.specs.Keys.{holds}
 use Rattle.segment.specs.declared.finder.Place.{Place}
 use Rattle.segment.specs.declared.finder.Found.{Found}
 use Rattle.segment.specs.declared.finder.Found.the-variants.{At, Nothing}
-use Rattle.segment.specs.Finder.{keyed, foundOf, Inside}
+use Rattle.segment.specs.Finder.{foundOf, Inside}
+use Rattle.segment.proofs.Slots.{word}
 use Rattle.laws.proofs.Grown.{closable, row-ends}
 use Rattle.channels.specs.Closing.{replacingAt, Opened}
 
@@ -49,7 +53,7 @@ ready v d h x p o =
     let a : r .at ≡ p .at = ap (λ (q : Place). q .at) (o .place) in
     let l : blocks (r .entry) ≡ p .length = ap (λ (q : Place). q .length) (o .place) in
     let f : r .first ≡ p .first = ap (λ (q : Place). q .first) (o .place) in
-    let e = row-ends v d h (tentativeOn x) r (o .is) in
+    let e = row-ends v d h (holds (Open x)) r (o .is) in
     record {
       at = a;
       length′ = l;
@@ -61,40 +65,48 @@ ready v d h x p o =
       small = omega arith;
     }
 
--- the old file is looked for by the words that stand at the place
-pub old-key : (d : List ℕ) (p : Place) (r : Row) → Ready d p r → (f : Found)
-    → f ≡ foundOf (find (keyed (File (getD d (p .at + 1) 0) (getD d (p .at + 2) 0) (getD d (p .at + 3) 0))) (rows d))
-    → f ≡ foundOf (fileOf d (getD (r .entry) 1 0) (getD (r .entry) 2 0) (getD (r .entry) 3 0))
+-- the name that stands at the place is the entry's
+pub name-there : (d : List ℕ) (p : Place) (r : Row) → Ready d p r → (w : ℕ) → 7 ≤ w
+    → nameOf (take w (drop (p .at) d)) ≡ nameOf (r .entry)
+name-there d p r q w l =
+    rw (
+      word d (p .at) w 1 (omega arith),
+      word d (p .at) w 2 (omega arith),
+      word d (p .at) w 3 (omega arith),
+      q .word 1 (omega arith),
+      q .word 2 (omega arith),
+      q .word 3 (omega arith),
+    )
+
+-- so the old file is looked for by the entry's name
+pub old-key : (d : List ℕ) (p : Place) (r : Row) → Ready d p r → (w : ℕ) → 7 ≤ w → (n : Name) (f : Found)
+    → n ≡ nameOf (take w (drop (p .at) d)) → f ≡ foundOf (find (holds (File n)) (rows d)) → f ≡ foundOf (fileOf d (nameOf (r .entry)))
 unfolding fileOf
-old-key d p r q f e =
-    e
-    ∙ ap (λ (x : ℕ). foundOf (find (permanentNamed x (getD d (p .at + 2) 0) (getD d (p .at + 3) 0)) (rows d))) (q .word 1 (omega arith))
-    ∙ ap (λ (x : ℕ). foundOf (find (permanentNamed (getD (r .entry) 1 0) x (getD d (p .at + 3) 0)) (rows d))) (q .word 2 (omega arith))
-    ∙ ap (λ (x : ℕ). foundOf (find (permanentNamed (getD (r .entry) 1 0) (getD (r .entry) 2 0) x) (rows d))) (q .word 3 (omega arith))
+old-key d p r q w l n f g e = e ∙ ap (λ (m : Name). foundOf (find (holds (File m)) (rows d))) (g ∙ name-there d p r q w l)
 
 -- the words after both steps are those of the close
 pub closed-words : (d : List ℕ) (p : Place) (r : Row) (n : ℕ) (f : Found) → Ready d p r
-    → f ≡ foundOf (fileOf d (getD (r .entry) 1 0) (getD (r .entry) 2 0) (getD (r .entry) 3 0))
+    → f ≡ foundOf (fileOf d (nameOf (r .entry)))
     → write
     (write d
-    (put (p .at) 0 1024
-    ∷ put (p .at) 4 n
-    ∷ put (p .at) 5 0
-    ∷ put (p .at + slotWords d) 4 (getD d (p .at + slotWords d + 4) 0 + (getD d (p .at + 4) 0 - n))
+    (put (p .at) statusWord permanentStatus
+    ∷ put (p .at) lengthWord n
+    ∷ put (p .at) channelWord 0
+    ∷ put (p .at + slotWords d) lengthWord (getD d (p .at + slotWords d + lengthWord) 0 + (getD d (p .at + lengthWord) 0 - n))
     ∷ []))
     (replacingAt f)
     ≡ write d (closing d r n)
 unfolding closing
 closed-words d p r n f q e =
-    let o = fileOf d (getD (r .entry) 1 0) (getD (r .entry) 2 0) (getD (r .entry) 3 0) in
-    let b : getD d (p .at + 4) 0 ≡ blocks (r .entry) = q .word 4 (omega arith) in
+    let o = fileOf d (nameOf (r .entry)) in
+    let b : getD d (p .at + lengthWord) 0 ≡ blocks (r .entry) = q .word 4 (omega arith) in
     rw (replaced o f e, b, q .at)
     (sym
     (write-append d
-    (put (p .at) 0 1024
-    ∷ put (p .at) 4 n
-    ∷ put (p .at) 5 0
-    ∷ put (p .at + slotWords d) 4 (getD d (p .at + slotWords d + 4) 0 + (blocks (r .entry) - n))
+    (put (p .at) statusWord permanentStatus
+    ∷ put (p .at) lengthWord n
+    ∷ put (p .at) channelWord 0
+    ∷ put (p .at + slotWords d) lengthWord (getD d (p .at + slotWords d + lengthWord) 0 + (blocks (r .entry) - n))
     ∷ [])
     (replacing o)))
 

@@ -1,3 +1,3 @@
 pub mod Finals
+pub mod Tested
 pub mod Closes
-pub mod Determined

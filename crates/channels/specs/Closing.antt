@@ -6,6 +6,7 @@ use mathlib.Core.List.{List, [], _∷_}
 use mathlib.Core.Option.{Option, none, some}
 use lib.IntN.{ℤ}
 use lib.Dec.{leb}
+use Rattle.meaning.specs.Kinds.{emptyStatus}
 use Rattle.meaning.specs.Words.{Row, statusWord, dateOf}
 use Rattle.meaning.specs.Answers.{Outcome, success, onRow, Write, put, write, openOn}
 use Rattle.meaning.specs.Requests.{finalLength, closing}
@@ -26,7 +27,7 @@ finalBy z longest = finalUnder (finalLength z) longest
 
 -- the old file's status
 abbrev pub replacingAt : Found → List Write
-replacingAt (At p) = put (p .at) statusWord 512 ∷ []
+replacingAt (At p) = put (p .at) statusWord emptyStatus ∷ []
 replacingAt Nothing = []
 
 -- a place is that of the tentative entry on a channel word

@@ -1,24 +1,24 @@
-// The requests on an open file, by its channel: abandon and close. Any words, any V, job, channel and length may be handed in. Each request
-// is refused by its number, in the order of the numbers, or carried out. A refusal answers zeros and changes no word.
-use directory::sound::fault_of;
-use door::empty_found;
-use door::is_channel;
-use door::refused;
+// The requests on an open file, by its channel, on a directory known to be sound: abandon and close. Each is refused by its number, from 8
+// on and in the order of the numbers, or carried out. A refusal answers zeros and changes no word.
 use edits::change::make_empty;
 use edits::change::make_permanent;
 use find::find_entry;
+use find::found::empty_found;
 use meaning::Answer;
+use meaning::CHANNEL_LIMIT;
+use meaning::Key;
+use meaning::refused;
+use meaning::succeeded;
 use segment::finder::Found;
-use segment::finder::Key;
 use segment::finder::Place;
+use segment::naming::name_at;
 ghost use mathlib.Core.Path.{_≡_};
 ghost use Prim.Native.Nat.{_≤_};
 ghost use lib.ListN.{length};
 ghost use Rattle.meaning.specs.Sound.{fault};
-ghost use Rattle.meaning.specs.Requests.{abandon, close};
-ghost use Rattle.meaning.specs.Answers.{write};
+ghost use Rattle.meaning.specs.Requests.{goodChannel, abandon, close};
+ghost use Rattle.meaning.specs.Answers.{Meets, write};
 ghost use Rattle.segment.specs.Finder.{Inside};
-ghost use Rattle.door.specs.Door.{Meets};
 ghost use Rattle.channels.specs.Closing.{finalBy, replacingAt, Opened, closedOn};
 
 // A final length that a tentative entry allows, or none.
@@ -27,13 +27,23 @@ pub enum Final {
     Wrong,
 }
 
-pub fn abandon(d: &mut [u16], v: usize, job: u16, channel: u16) -> Answer
+// Job 0 or 2, and a channel up to the limit.
+pub fn is_channel(job: u16, channel: u16) -> bool
+    ensures { λ r. ⌜ r ≡ goodChannel job channel ⌝ }
+{
+    if job == 0 {
+        return channel <= CHANNEL_LIMIT;
+    }
+    if job == 2 {
+        return channel <= CHANNEL_LIMIT;
+    }
+    false
+}
+
+pub fn abandon_sound(d: &mut [u16], v: usize, job: u16, channel: u16) -> Answer
+    requires { ⌜ fault v (now d) ≡ 0 ⌝ }
     ensures { λ r. ⌜ Meets r (now (d .exit)) (abandon v (now (d .entry)) job channel) ⌝ }
 {
-    let number = fault_of(d, v);
-    if number != 0 {
-        return refused(number);
-    }
     if !is_channel(job, channel) {
         return refused(8);
     }
@@ -76,24 +86,17 @@ fn close_at(d: &mut [u16], v: usize, word: u16, place: Place, size: u16) -> Answ
     let at = place.at;
     let width = 7 + (d[3] / 2) as usize;
     let next = at + width;
-    let old = find_entry(d, Key::File(d[at + 1], d[at + 2], d[at + 3]));
+    let name = name_at(d, at, width);
+    let old = find_entry(d, Key::File(name));
     make_permanent(d, at, next, size);
     empty_old(d, old);
-    Answer {
-        number: 0,
-        first: place.first as u16,
-        length: size,
-        date: place.date,
-    }
+    succeeded(place.first as u16, size, place.date)
 }
 
-pub fn close(d: &mut [u16], v: usize, job: u16, channel: u16, size: i32) -> Answer
+pub fn close_sound(d: &mut [u16], v: usize, job: u16, channel: u16, size: i32) -> Answer
+    requires { ⌜ fault v (now d) ≡ 0 ⌝ }
     ensures { λ r. ⌜ Meets r (now (d .exit)) (close v (now (d .entry)) job channel size) ⌝ }
 {
-    let number = fault_of(d, v);
-    if number != 0 {
-        return refused(number);
-    }
     if !is_channel(job, channel) {
         return refused(8);
     }

@@ -16,55 +16,55 @@ use Rattle.meaning.specs.Kinds.{kindOf, isTentative, isEmpty, isEnd}
 use Rattle.meaning.specs.Words.{Entry, firstOf, kind, blocks, slotCount, slots, upto, total}
 use Rattle.meaning.specs.Enter.{Area, costAfter, areasIn, eligibles, firstFit}
 use Rattle.segment.proofs.Slots.{word, word0, mul-less}
-use Rattle.choice.specs.Choice.{placeOf, chosenOf}
-use Rattle.choice.specs.Judged.{Cost, roomFor, eligibleBy, areaOf, fitting, FitIn}
-use Rattle.choice.specs.declared.choose.Room.{Room}
+use Rattle.choice.specs.Choice.{placeOfArea, chosenOf}
+use Rattle.choice.specs.Room.{Cost, roomFor, eligibleBy}
+use Rattle.choice.specs.Judged.{areaFrom, fitting, FitIn}
 use Rattle.choice.specs.declared.choose.Chosen.{Chosen}
 use Rattle.choice.specs.declared.choose.Chosen.the-variants.{At, Nothing}
-use Rattle.choice.proofs.Ahead.{slotAt, ahead, ahead-all, ahead-none, ahead-end, ahead-next, first-room, few-slots}
+use Rattle.segment.proofs.Ahead.{slotAt, ahead, ahead-all, ahead-none, ahead-end, ahead-next, first-room, few-slots}
 
 -- what is chosen among entries of segment s, after k others, from block b on; t: a tentative entry stands directly before
-abbrev pub fits : ℕ → ℕ → Room → ℕ → ℕ → ℕ → Bool → List Entry → Chosen
-fits w s room m k b t es = chosenOf w (firstFit m (eligibles (areasIn (roomFor room) s k b t es)))
+abbrev pub fits : ℕ → ℕ → ℕ → ℕ → ℕ → ℕ → Bool → List Entry → Chosen
+fits w s free m k b t es = chosenOf w (firstFit m (eligibles (areasIn (roomFor free) s k b t es)))
 
 -- by the tests of an entry: x it is an area, y it is eligible, z it is long enough
 by-tests : (w m : ℕ) (x y z : Bool) (a : Area) (r : List Area) → a .eligible ≡ y → leb m (a .size) ≡ z
     → chosenOf w (firstFit m (eligibles (cond x (a ∷ r) r)))
-    ≡ cond (x && (y && z)) (At (placeOf w a)) (chosenOf w (firstFit m (eligibles r)))
+    ≡ cond (x && (y && z)) (At (placeOfArea w a)) (chosenOf w (firstFit m (eligibles r)))
 unfolding eligibles firstFit
 by-tests w m true true true a r e f = rw (e, f)
 by-tests w m true true false a r e f = rw (e, f)
 by-tests w m true false z a r e f = rw e
 by-tests w m false y z a r e f = refl
 
-module _ (w s : ℕ) (room : Room) (m : ℕ) where
-  fits-none : (k b : ℕ) (t : Bool) → Nothing ≡ fits w s room m k b t []
+module _ (w s : ℕ) (free : ℕ) (m : ℕ) where
+  fits-none : (k b : ℕ) (t : Bool) → Nothing ≡ fits w s free m k b t []
   unfolding areasIn eligibles firstFit
   fits-none k b t = refl
 
   fits-step : (k b : ℕ) (t : Bool) (e : Entry) (es : List Entry)
-      → fits w s room m k b t (e ∷ es)
-      ≡ cond (fitting m room t (kind e) (blocks e)) (At (placeOf w (areaOf room s k b t e)))
-      (fits w s room m (k + 1) (b + blocks e) (isTentative (kind e)) es)
+      → fits w s free m k b t (e ∷ es)
+      ≡ cond (fitting m free t (kind e) (blocks e)) (At (placeOfArea w (areaFrom free s k b t e)))
+      (fits w s free m (k + 1) (b + blocks e) (isTentative (kind e)) es)
   unfolding areasIn fitting eligibleBy
   fits-step k b t e es =
-      by-tests w m (isEmpty (kind e)) (leb 1 (blocks e) && roomFor room (costAfter t)) (leb m (blocks e))
-      (areaOf room s k b t e)
-      (areasIn (roomFor room) s (k + 1) (b + blocks e) (isTentative (kind e)) es) refl refl
+      by-tests w m (isEmpty (kind e)) (leb 1 (blocks e) && roomFor free (costAfter t)) (leb m (blocks e))
+      (areaFrom free s k b t e)
+      (areasIn (roomFor free) s (k + 1) (b + blocks e) (isTentative (kind e)) es) refl refl
 
   module _ (g : List ℕ) (left p k b : ℕ) (t : Bool) where
-    pub fits-over : left ≤ 0 → Nothing ≡ fits w s room m k b t (ahead g w left p)
+    pub fits-over : left ≤ 0 → Nothing ≡ fits w s free m k b t (ahead g w left p)
     fits-over h = rw (ahead-none g w left p h) (fits-none k b t)
 
     module _ (h : 0 < left) (wide : 7 ≤ w) where
-      pub fits-end : isEnd (kindOf (getD g p 0)) ≡ true → Nothing ≡ fits w s room m k b t (ahead g w left p)
+      pub fits-end : isEnd (kindOf (getD g p 0)) ≡ true → Nothing ≡ fits w s free m k b t (ahead g w left p)
       fits-end e = rw (ahead-end g w left p h wide e) (fits-none k b t)
 
       module _ (e : isEnd (kindOf (getD g p 0)) ≡ false) where
-        pub fits-miss : fitting m room t (kindOf (getD g p 0)) (getD g (p + 4) 0) ≡ false
+        pub fits-miss : fitting m free t (kindOf (getD g p 0)) (getD g (p + 4) 0) ≡ false
             → (u : Bool) → u ≡ isTentative (kindOf (getD g p 0))
-            → fits w s room m (k + 1) (b + getD g (p + 4) 0) u (ahead g w (left - 1) (p + w))
-            ≡ fits w s room m k b t (ahead g w left p)
+            → fits w s free m (k + 1) (b + getD g (p + 4) 0) u (ahead g w (left - 1) (p + w))
+            ≡ fits w s free m k b t (ahead g w left p)
         fits-miss f u q =
             rw (
               ahead-next g w left p h wide e,
@@ -75,8 +75,8 @@ module _ (w s : ℕ) (room : Room) (m : ℕ) where
               q,
             )
 
-        pub fits-hit : fitting m room t (kindOf (getD g p 0)) (getD g (p + 4) 0) ≡ true
-            → At (placeOf w (areaOf room s k b t (slotAt g w p))) ≡ fits w s room m k b t (ahead g w left p)
+        pub fits-hit : fitting m free t (kindOf (getD g p 0)) (getD g (p + 4) 0) ≡ true
+            → At (placeOfArea w (areaFrom free s k b t (slotAt g w p))) ≡ fits w s free m k b t (ahead g w left p)
         fits-hit f =
             rw (
               ahead-next g w left p h wide e,
@@ -86,14 +86,14 @@ module _ (w s : ℕ) (room : Room) (m : ℕ) where
               f,
             )
 
--- what a fit's tests say: its length, and that there is room for its cost
-fitting-is : (m : ℕ) (room : Room) (t : Bool) (κ : Kind) (n : ℕ) → fitting m room t κ n ≡ true
-    → (1 ≤ n) × (m ≤ n) × (roomFor room (costAfter t) ≡ true)
+-- what a fit's tests say: its length, and that there is free for its cost
+fitting-is : (m : ℕ) (free : ℕ) (t : Bool) (κ : Kind) (n : ℕ) → fitting m free t κ n ≡ true
+    → (1 ≤ n) × (m ≤ n) × (roomFor free (costAfter t) ≡ true)
 unfolding fitting eligibleBy
-fitting-is m room t κ n h =
-    let a = both (isEmpty κ) ((leb 1 n && roomFor room (costAfter t)) && leb m n) h .1 in
-    let b = both (leb 1 n && roomFor room (costAfter t)) (leb m n) a in
-    let c = both (leb 1 n) (roomFor room (costAfter t)) (b .0) in
+fitting-is m free t κ n h =
+    let a = both (isEmpty κ) ((leb 1 n && roomFor free (costAfter t)) && leb m n) h .1 in
+    let b = both (leb 1 n && roomFor free (costAfter t)) (leb m n) a in
+    let c = both (leb 1 n) (roomFor free (costAfter t)) (b .0) in
     (leb-true 1 n (c .0), leb-true m n (b .1), c .1)
 
 total-next : (g : List ℕ) (w p : ℕ) (es : List Entry) → 7 ≤ w → total (slotAt g w p ∷ es) ≡ getD g (p + 4) 0 + total es
@@ -101,18 +101,18 @@ unfolding total
 total-next g w p es h = rw (word g p w 4 (omega arith))
 
 -- the loop's invariant: left slots are ahead, from word p on, after k entries; the next begins at block b
-pub record Fitting (g : List ℕ) (w s : ℕ) (room : Room) (m left p k b : ℕ) (t : Bool) : Type 0 where
+pub record Fitting (g : List ℕ) (w s : ℕ) (free : ℕ) (m left p k b : ℕ) (t : Bool) : Type 0 where
   pub place : p + left * w ≤ 512
   pub few : k + left ≤ 507
   pub word : p ≡ 5 + k * w
   pub small : b ≤ 65535 + 65535 * k
   pub count : k + length (ahead g w left p) ≡ length (upto (slots w g))
   pub sum : b + total (ahead g w left p) ≡ firstOf g + total (upto (slots w g))
-  pub same : fits w s room m k b t (ahead g w left p) ≡ fits w s room m 0 (firstOf g) false (upto (slots w g))
+  pub same : fits w s free m k b t (ahead g w left p) ≡ fits w s free m 0 (firstOf g) false (upto (slots w g))
 
-pub starts : (g : List ℕ) (w s : ℕ) (room : Room) (m : ℕ) → firstOf g ≤ 65535
-    → Fitting g w s room m (slotCount w) 5 0 (firstOf g) false
-starts g w s room m l = record {
+pub starts : (g : List ℕ) (w s : ℕ) (free : ℕ) (m : ℕ) → firstOf g ≤ 65535
+    → Fitting g w s free m (slotCount w) 5 0 (firstOf g) false
+starts g w s free m l = record {
   place = first-room w;
   few = omega (arith, few-slots w);
   word = omega arith;
@@ -123,7 +123,7 @@ starts g w s room m l = record {
 }
 
 -- the ways through the loop's body that pass the marker's test
-module _ (w s : ℕ) (room : Room) (m : ℕ) (g : List ℕ) (left p k b : ℕ) (t : Bool) (inv : Fitting g w s room m left p k b t)
+module _ (w s : ℕ) (free : ℕ) (m : ℕ) (g : List ℕ) (left p k b : ℕ) (t : Bool) (inv : Fitting g w s free m left p k b t)
     (h : 0 < left) (wide : 7 ≤ w) (e : isEnd (kindOf (getD g p 0)) ≡ false) where
   one-ahead : length (ahead g w left p) ≡ 1 + length (ahead g w (left - 1) (p + w))
   one-ahead = ap length (ahead-next g w left p h wide e) ∙ omega arith
@@ -131,9 +131,9 @@ module _ (w s : ℕ) (room : Room) (m : ℕ) (g : List ℕ) (left p k b : ℕ) (
   blocks-ahead : total (ahead g w left p) ≡ getD g (p + 4) 0 + total (ahead g w (left - 1) (p + w))
   blocks-ahead = ap total (ahead-next g w left p h wide e) ∙ total-next g w p (ahead g w (left - 1) (p + w)) wide
 
-  pub fit-miss : fitting m room t (kindOf (getD g p 0)) (getD g (p + 4) 0) ≡ false → getD g (p + 4) 0 ≤ 65535
+  pub fit-miss : fitting m free t (kindOf (getD g p 0)) (getD g (p + 4) 0) ≡ false → getD g (p + 4) 0 ≤ 65535
       → (u : Bool) → u ≡ isTentative (kindOf (getD g p 0))
-      → Fitting g w s room m (left - 1) (p + w) (k + 1) (b + getD g (p + 4) 0) u
+      → Fitting g w s free m (left - 1) (p + w) (k + 1) (b + getD g (p + 4) 0) u
   fit-miss f l u q =
       let o = one-ahead in
       let d = blocks-ahead in
@@ -146,26 +146,26 @@ module _ (w s : ℕ) (room : Room) (m : ℕ) (g : List ℕ) (left p k b : ℕ) (
         small = omega arith;
         count = omega arith;
         sum = omega arith;
-        same = fits-miss w s room m g left p k b t h wide e f u q ∙ inv .same;
+        same = fits-miss w s free m g left p k b t h wide e f u q ∙ inv .same;
       }
 
   -- a fit, by the numbers that code has counted
-  pub fit-hit : fitting m room t (kindOf (getD g p 0)) (getD g (p + 4) 0) ≡ true
+  pub fit-hit : fitting m free t (kindOf (getD g p 0)) (getD g (p + 4) 0) ≡ true
       → (cost : ℕ) → Cost cost t
       → FitIn (At (record { seg = s; before = k; at = 512 * (s - 1) + p; first = b; size = getD g (p + 4) 0; cost = cost }))
-      g w s room m
+      g w s (roomFor free) m
   fit-hit f cost c =
       let o = one-ahead in
       let d = blocks-ahead in
       let y = mul-less left w h in
-      let l = fitting-is m room t (kindOf (getD g p 0)) (getD g (p + 4) 0) f in
+      let l = fitting-is m free t (kindOf (getD g p 0)) (getD g (p + 4) 0) f in
       let at : 512 * (s - 1) + p ≡ 512 * (s - 1) + 5 + k * w = omega arith in
       let same : At (record { seg = s; before = k; at = 512 * (s - 1) + p; first = b; size = getD g (p + 4) 0; cost = cost })
-      ≡ At (placeOf w (areaOf room s k b t (slotAt g w p))) =
+      ≡ At (placeOfArea w (areaFrom free s k b t (slotAt g w p))) =
       rw (at, c .is, word g p w 4 (omega arith)) in
       let back : 512 * (s - 1) + p - 512 * (s - 1) ≡ p = omega arith in
       record {
-        is = same ∙ fits-hit w s room m g left p k b t h wide e f ∙ inv .same;
+        is = same ∙ fits-hit w s free m g left p k b t h wide e f ∙ inv .same;
         stands = record {
           seg = refl;
           low = omega arith;
@@ -175,6 +175,7 @@ module _ (w s : ℕ) (room : Room) (m : ℕ) (g : List ℕ) (left p k b : ℕ) (
           ends = omega arith;
           long = l .1;
           some = l .0;
+          costs = c .some;
           cheap = c .small;
           roomy = rw (c .is) (l .2);
         };

@@ -1,7 +1,5 @@
-pub mod Noted
-pub mod Ahead
-pub mod Surveying
 pub mod Fitting
-pub mod Visits
-pub mod Surveys
 pub mod FirstFit
+pub mod Longs
+pub mod Rooms
+pub mod Visits

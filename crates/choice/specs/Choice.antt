@@ -2,12 +2,11 @@
 use Prim.Native.Nat.{ℕ, _+_, _*_, _-_, _≤_, _<_}
 use mathlib.Core.Path.{_≡_}
 use mathlib.Core.Bool.{true}
-use mathlib.Core.List.{List, map}
+use mathlib.Core.List.{List}
 use mathlib.Core.Option.{Option, none, some}
 use lib.ListN.{length, getD}
 use Rattle.meaning.specs.Words.{segment, firstOf, highest, slotWords, lengthWord, entries, total, chain}
-use Rattle.meaning.specs.Enter.{Area, hasRoom, areas, eligibles, longestOf, secondOf, longEnough, firstFit}
-use Rattle.choice.specs.declared.choose.Survey.{Survey}
+use Rattle.meaning.specs.Enter.{Area, hasRoom, areas, eligibles, firstFit}
 use Rattle.choice.specs.declared.choose.AreaPlace.{AreaPlace}
 use Rattle.choice.specs.declared.choose.Chosen.{Chosen}
 use Rattle.choice.specs.declared.choose.Chosen.the-variants.{At, Nothing}
@@ -16,19 +15,9 @@ use Rattle.choice.specs.declared.choose.Chosen.the-variants.{At, Nothing
 abbrev pub allAreas : List ℕ → List Area
 allAreas t = areas t (chain t)
 
-abbrev pub lengths : List Area → List ℕ
-lengths xs = map (λ r. r .size) xs
-
--- the survey r of the areas of t, for a least length of n
-pub record Surveyed (r : Survey) (t : List ℕ) (n : ℕ) : Type 0 where
-  pub long : r .long ≡ longEnough n (allAreas t)
-  pub eligible : r .eligible ≡ longEnough n (eligibles (allAreas t))
-  pub longest : r .longest ≡ longestOf (lengths (eligibles (allAreas t)))
-  pub second : r .second ≡ secondOf (lengths (eligibles (allAreas t)))
-
 -- an area's place, where slots have w words: they stand from word 5 of the segment
-abbrev pub placeOf : ℕ → Area → AreaPlace
-placeOf w a = record {
+abbrev pub placeOfArea : ℕ → Area → AreaPlace
+placeOfArea w a = record {
   seg = a .seg;
   before = a .before;
   at = 512 * (a .seg - 1) + 5 + a .before * w;
@@ -40,7 +29,7 @@ placeOf w a = record {
 -- what a choice answers: the place of the area that it finds, or nothing
 abbrev pub chosenOf : ℕ → Option Area → Chosen
 chosenOf w none = Nothing
-chosenOf w (some a) = At (placeOf w a)
+chosenOf w (some a) = At (placeOfArea w a)
 
 -- a place p chosen in t, for a length of n. Its segment is in use, its slot lies in the segment and is an entry's, its length is
 -- the slot's length word, and its blocks are among the segment's; it is long enough and at least 1, and it costs 1 or 2 slots,
@@ -54,6 +43,7 @@ pub record Stands (p : AreaPlace) (t : List ℕ) (n : ℕ) : Type 0 where
   pub ends : p .first + p .size ≤ firstOf (segment t (p .seg)) + total (entries t (p .seg))
   pub long : n ≤ p .size
   pub some : 1 ≤ p .size
+  pub costs : 1 ≤ p .cost
   pub cheap : p .cost ≤ 2
   pub roomy : hasRoom t (entries t (p .seg)) (p .cost) ≡ true
 

@@ -1,2 +1,4 @@
-// Which area an enter takes, on a directory known to be sound.
+// Which area an enter takes, on a tidied directory: the slots that an area costs and those that a segment has free, and the first
+// eligible area that is long enough.
 pub mod choose;
+pub mod room;

@@ -1,4 +1,4 @@
--- The entries in buckets. From the latest entry of a bucket, each leads to the latest before it there; an entry found by a key is
+-- The entries in buckets. From the latest entry of a bucket, each leads to the latest before it there; an entry that has a key is
 -- in the key's bucket, so that a walk along these finds what a walk over all would find (`latest-any`). Of the hash no more is
 -- known than that it is a function of the key. The table after k entries has all this for k, and no two of them clash.
 -- Assumes nothing.
@@ -6,6 +6,7 @@ use Prim.Native.Nat.{ℕ, zero, suc, _+_, _-_, _≤_, _<_}
 use mathlib.Core.Path.{_≡_, refl, sym, ap, _∙_}
 use mathlib.Core.Bool.{Bool, true, false, cond, _||_, or-true}
 use mathlib.Core.List.{List, _∷_}
+use mathlib.Core.Option.{some}
 use native.Mathlib.Omega.{arith}
 use native.Mathlib.Nat.{zero-add, suc-add}
 use native.Mathlib.Numerals.{add-one}
@@ -14,12 +15,11 @@ use lib.Seq.{getD-set-same, getD-set-other}
 use lib.Dec.{eqb}
 use borrow.Author.Tests.{eqb-true, eqb-false}
 use Rattle.bools.proofs.Bools.{never}
-use Rattle.meaning.specs.Sound.{any, clash, clashes}
-use Rattle.segment.specs.declared.finder.Key.{Key}
-use Rattle.segment.specs.Finder.{keyed}
-use Rattle.clashes.specs.Candidates.{numbered, seen, Places}
-use Rattle.clashes.specs.Buckets.{keyOf, bucketOf, bucketAt, latest, Threaded}
-use Rattle.clashes.proofs.Clashing.{any-clash, keyed-key}
+use Rattle.meaning.specs.Keys.{keyOf, holds, clash}
+use Rattle.meaning.specs.Sound.{any, clashes}
+use Rattle.meaning.specs.declared.Key.{Key}
+use Rattle.clashes.specs.Buckets.{numbered, seen, Places, bucketOf, bucketOn, bucketAt, latest, Threaded}
+use Rattle.clashes.proofs.Clashing.{any-clash, holds-key}
 
 module _ (d : List ℕ) (w : ℕ) (ps : List ℕ) (n : ℕ) where
   -- one entry more, counted down and up
@@ -61,23 +61,23 @@ module _ (d : List ℕ) (w : ℕ) (ps : List ℕ) (n : ℕ) where
       go false e r l = r l
 
   -- an entry of another bucket is not found by the key
-  other-bucket : (key : Key) (k : ℕ) → eqb (bucketAt d w ps n k) (bucketOf key) ≡ false → keyed key (numbered d w ps n k) ≡ false
+  other-bucket : (key : Key) (k : ℕ) → eqb (bucketAt d w ps n k) (bucketOf key) ≡ false → holds key (numbered d w ps n k) ≡ false
   unfolding bucketAt
   other-bucket key k h =
       let e = numbered d w ps n k in
-      never (keyed key e) (λ q. eqb-false (bucketOf (keyOf e)) (bucketOf key) h (ap bucketOf (keyed-key key e q)))
+      never (holds key e) (λ q. eqb-false (bucketOn (keyOf e)) (bucketOf key) h (ap bucketOn (holds-key key e q)))
 
   -- so a search goes on from the latest of its bucket
   latest-any : (key : Key) (k : ℕ)
-      → any (keyed key) (seen d w ps n k) ≡ any (keyed key) (seen d w ps n (latest d w ps n (bucketOf key) k))
+      → any (holds key) (seen d w ps n k) ≡ any (holds key) (seen d w ps n (latest d w ps n (bucketOf key) k))
   unfolding latest seen any
   latest-any key zero = refl
   latest-any key (suc k) = go (eqb (bucketAt d w ps n (suc k)) (bucketOf key)) refl (latest-any key k)
     where
       go : (t : Bool) → eqb (bucketAt d w ps n (suc k)) (bucketOf key) ≡ t
-          → any (keyed key) (seen d w ps n k) ≡ any (keyed key) (seen d w ps n (latest d w ps n (bucketOf key) k))
-          → any (keyed key) (seen d w ps n (suc k))
-          ≡ any (keyed key) (seen d w ps n (cond t (suc k) (latest d w ps n (bucketOf key) k)))
+          → any (holds key) (seen d w ps n k) ≡ any (holds key) (seen d w ps n (latest d w ps n (bucketOf key) k))
+          → any (holds key) (seen d w ps n (suc k))
+          ≡ any (holds key) (seen d w ps n (cond t (suc k) (latest d w ps n (bucketOf key) k)))
       go true e r = refl
       go false e r = rw (other-bucket key (suc k) e) r
 
@@ -91,10 +91,10 @@ module _ (d : List ℕ) (w : ℕ) (ps : List ℕ) (n : ℕ) where
 pub record Walk (d : List ℕ) (w : ℕ) (ps : List ℕ) (n : ℕ) (key : Key) (k j : ℕ) : Type 0 where
   pub most : j ≤ k
   pub bucket : 0 < j → bucketAt d w ps n j ≡ bucketOf key
-  pub same : any (keyed key) (seen d w ps n j) ≡ any (keyed key) (seen d w ps n k)
+  pub same : any (holds key) (seen d w ps n j) ≡ any (holds key) (seen d w ps n k)
 
 module _ {d : List ℕ} {w : ℕ} {ps : List ℕ} {n : ℕ} {key : Key} {k : ℕ} where
-  walk-latest : (j : ℕ) → j ≤ k → any (keyed key) (seen d w ps n j) ≡ any (keyed key) (seen d w ps n k)
+  walk-latest : (j : ℕ) → j ≤ k → any (holds key) (seen d w ps n j) ≡ any (holds key) (seen d w ps n k)
       → Walk d w ps n key k (latest d w ps n (bucketOf key) j)
   walk-latest j h e =
       let l = latest-le d w ps n (bucketOf key) j in
@@ -108,18 +108,18 @@ module _ {d : List ℕ} {w : ℕ} {ps : List ℕ} {n : ℕ} {key : Key} {k : ℕ
   walk-start e = rw e (walk-latest k (omega arith) refl)
 
   module _ {j : ℕ} (v : Walk d w ps n key k j) where
-    pub walk-end : j ≤ 0 → false ≡ any (keyed key) (seen d w ps n k)
+    pub walk-end : j ≤ 0 → false ≡ any (holds key) (seen d w ps n k)
     unfolding any seen
     walk-end h =
         let e : j ≡ 0 = omega arith in
         rw e at (v .same)
 
-    module _ (h : 0 < j) {found : Bool} (is : found ≡ keyed key (take w (drop (getD ps (n - j) 0) d))) where
-      here : any (keyed key) (seen d w ps n j) ≡ found || any (keyed key) (seen d w ps n (j - 1))
+    module _ (h : 0 < j) {found : Bool} (is : found ≡ holds key (take w (drop (getD ps (n - j) 0) d))) where
+      here : any (holds key) (seen d w ps n j) ≡ found || any (holds key) (seen d w ps n (j - 1))
       unfolding any numbered
       here = rw (seen-step d w ps n j h, is)
 
-      pub walk-hit : found ≡ true → true ≡ any (keyed key) (seen d w ps n k)
+      pub walk-hit : found ≡ true → true ≡ any (holds key) (seen d w ps n k)
       walk-hit e = sym (rw e at here) ∙ v .same
 
       pub walk-next : {earlier : List ℕ} → Threaded d w ps n earlier k → found ≡ false
@@ -136,15 +136,15 @@ module _ {d : List ℕ} {w : ℕ} {ps : List ℕ} {n : ℕ} {key : Key} {k : ℕ
 
 -- the table after k entries: the latest of each bucket, the one before each entry, and no clash
 pub record Table (d : List ℕ) (w : ℕ) (ps : List ℕ) (n : ℕ) (latests earlier : List ℕ) (k : ℕ) : Type 0 where
-  pub buckets : length latests ≡ 1021
+  pub buckets : length latests ≡ 8192
   pub room : length earlier ≡ 2233
-  pub heads : (b : ℕ) → b < 1021 → getD latests b 0 ≡ latest d w ps n b k
+  pub heads : (b : ℕ) → b < 8192 → getD latests b 0 ≡ latest d w ps n b k
   pub threaded : Threaded d w ps n earlier k
   pub none : clashes (seen d w ps n k) ≡ false
 
 module _ {d : List ℕ} {w : ℕ} {ps : List ℕ} {n : ℕ} where
-  pub table-start : {latests earlier : List ℕ} → length latests ≡ 1021 → length earlier ≡ 2233
-      → ((b : ℕ) → b < 1021 → getD latests b 0 ≡ 0)
+  pub table-start : {latests earlier : List ℕ} → length latests ≡ 8192 → length earlier ≡ 2233
+      → ((b : ℕ) → b < 8192 → getD latests b 0 ≡ 0)
       → Table d w ps n latests earlier 0
   unfolding latest seen clashes
   table-start a b f = record {
@@ -156,7 +156,7 @@ module _ {d : List ℕ} {w : ℕ} {ps : List ℕ} {n : ℕ} where
   }
 
   -- where the walk along bucket x begins
-  pub table-first : {latests earlier : List ℕ} {k b x : ℕ} → Table d w ps n latests earlier k → (b ≡ x) × (b < 1021)
+  pub table-first : {latests earlier : List ℕ} {k b x : ℕ} → Table d w ps n latests earlier k → (b ≡ x) × (b < 8192)
       → (getD latests b 0 ≡ latest d w ps n x k) × (getD latests b 0 ≤ k)
   table-first {k = k} {b = b} t is =
       let e = t .heads b (is .1) in
@@ -171,15 +171,15 @@ module _ {d : List ℕ} {w : ℕ} {ps : List ℕ} {n : ℕ} where
       sym (rw e at (t .none))
 
   -- the next entry, which has this key: whether it is found among those before it is whether it clashes with one of them
-  module _ (g : Places d w ps n) (k : ℕ) (l : k < n) {key : Key} (e : key ≡ keyOf (take w (drop (getD ps (n - (k + 1)) 0) d))) where
-    met-clash : {found : Bool} → found ≡ any (keyed key) (seen d w ps n k)
+  module _ (g : Places d w ps n) (k : ℕ) (l : k < n) {key : Key} (e : keyOf (take w (drop (getD ps (n - (k + 1)) 0) d)) ≡ some key) where
+    met-clash : {found : Bool} → found ≡ any (holds key) (seen d w ps n k)
         → any (clash (numbered d w ps n (k + 1))) (seen d w ps n k) ≡ found
     unfolding numbered
     met-clash h =
-        any-clash (take w (drop (getD ps (n - (k + 1)) 0) d)) (seen d w ps n k) (g .all (n - (k + 1)) (omega arith) .can)
-        ∙ sym (h ∙ ap (λ (x : Key). any (keyed x) (seen d w ps n k)) e)
+        any-clash key (take w (drop (getD ps (n - (k + 1)) 0) d)) e (g .all (n - (k + 1)) (omega arith) .can) (seen d w ps n k)
+        ∙ sym h
 
-    pub table-found : {found : Bool} → found ≡ any (keyed key) (seen d w ps n k) → found ≡ true
+    pub table-found : {found : Bool} → found ≡ any (holds key) (seen d w ps n k) → found ≡ true
         → true ≡ clashes (seen d w ps n n)
     unfolding clashes
     table-found h f =
@@ -187,12 +187,12 @@ module _ {d : List ℕ} {w : ℕ} {ps : List ℕ} {n : ℕ} where
         let m : n - (k + 1) + (k + 1) ≡ n = omega arith in
         sym (rw m at (clash-stays d w ps n (n - (k + 1)) (k + 1) c))
 
-    module _ {latests earlier : List ℕ} (t : Table d w ps n latests earlier k) {b : ℕ} (is : (b ≡ bucketOf key) × (b < 1021)) where
+    module _ {latests earlier : List ℕ} (t : Table d w ps n latests earlier k) {b : ℕ} (is : (b ≡ bucketOf key) × (b < 8192)) where
       in-bucket : b ≡ bucketAt d w ps n (k + 1)
       unfolding bucketAt numbered
-      in-bucket = is .0 ∙ ap bucketOf e
+      in-bucket = is .0 ∙ sym (ap bucketOn e)
 
-      heads-after : (x : ℕ) → x < 1021 → getD (set latests b (k + 1)) x 0 ≡ latest d w ps n x (k + 1)
+      heads-after : (x : ℕ) → x < 8192 → getD (set latests b (k + 1)) x 0 ≡ latest d w ps n x (k + 1)
       heads-after x s = rw latest-more (go (eqb (bucketAt d w ps n (k + 1)) x) refl)
         where
           go : (y : Bool) → eqb (bucketAt d w ps n (k + 1)) x ≡ y
@@ -222,7 +222,7 @@ module _ {d : List ℕ} {w : ℕ} {ps : List ℕ} {n : ℕ} where
               getD-set-other earlier (k + 1) j (getD latests b 0) 0 z ∙ t .threaded .back j a (omega arith)
 
       -- it is put into its bucket
-      pub table-more : {found : Bool} → found ≡ any (keyed key) (seen d w ps n k) → found ≡ false
+      pub table-more : {found : Bool} → found ≡ any (holds key) (seen d w ps n k) → found ≡ false
           → Table d w ps n (set latests b (k + 1)) (set earlier (k + 1) (getD latests b 0)) (k + 1)
       unfolding clashes
       table-more h f = record {

@@ -1,65 +1,133 @@
--- Rule 6 by keys. An entry that cannot clash may be left out of a list: it clashes with none, and none with it. And one that can
--- clash clashes with just the entries that are found by its key; what is found by a key has that key, so that entries of other
--- keys need not be looked at. Assumes nothing.
-use Prim.Native.Nat.{ℕ, _+_, _≤_}
-use mathlib.Core.Path.{_≡_, refl, sym, _∙_}
-use mathlib.Core.Bool.{Bool, true, false, cond, _&&_, _||_, and-false, or-false, false≢true}
-use mathlib.Core.List.{List, [], _∷_, _++_}
+-- Rule 6 by keys. An entry that has a key has no other. So one that cannot clash may be left out of a list: it clashes with none, and
+-- none with it. And one that can clash clashes with just the entries that have its key, so that those of other keys need not be
+-- looked at. What `once` says of a key is nowhere asked. Assumes nothing.
+use Prim.Native.Nat.{ℕ, zero, suc, _+_, _≤_, _<_}
+use mathlib.Core.Path.{_≡_, refl, sym, ap, _∙_}
+use mathlib.Core.Bool.{Bool, true, false, cond, _&&_, _||_, true≢false, false≢true}
+use mathlib.Core.List.{List, [], _∷_}
+use mathlib.Core.Option.{Option, none, some}
 use native.Mathlib.Omega.{arith}
 use lib.ListN.{getD, take, drop}
 use lib.Dec.{eqb}
 use borrow.Author.Tests.{eqb-true}
-use Rattle.bools.proofs.Bools.{both, neither}
+use Rattle.bools.proofs.Bools.{both, never}
 use Rattle.meaning.specs.declared.Kind.{Kind}
 use Rattle.meaning.specs.declared.Kind.the-variants.{Tentative, Empty, Permanent, End, Unknown}
+use Rattle.meaning.specs.declared.Name.{Name}
+use Rattle.meaning.specs.declared.Key.{Key}
+use Rattle.meaning.specs.declared.Key.the-variants.{File, Open}
 use Rattle.meaning.specs.Kinds.{kindOf, isTentative, isPermanent}
-use Rattle.meaning.specs.Words.{Entry, nameWord, name2Word, extensionWord, kind, channelOf, named}
-use Rattle.meaning.specs.Sound.{any, clash, clashes}
-use Rattle.meaning.specs.Answers.{permanentNamed, tentativeOn}
+use Rattle.meaning.specs.Words.{Entry, nameOf, channelOf, sameName}
+use Rattle.meaning.specs.Keys.{keyIn, keyOf, sameKey, isKey, holds, once, clashOn, clash}
+use Rattle.meaning.specs.Sound.{any, clashes}
 use Rattle.walks.proofs.Lists.{none-any}
-use Rattle.segment.specs.declared.finder.Key.{Key}
-use Rattle.segment.specs.declared.finder.Key.the-variants.{File, Open}
-use Rattle.segment.specs.Finder.{keyed}
 use Rattle.segment.proofs.Slots.{word, word0}
-use Rattle.clashes.specs.Candidates.{canClash, candidates}
-use Rattle.clashes.specs.Buckets.{keyOf}
+use Rattle.clashes.specs.Candidates.{onceOn, canClash, candidates}
+use Rattle.clashes.specs.Buckets.{seen}
 
--- the slot at p by the words that code reads, where k is its kind
+-- keys that are the same are equal
+same-name : (n m : Name) → sameName n m ≡ true → n ≡ m
+unfolding sameName
+same-name n m h =
+    let x = eqb (n .first) (m .first) in
+    let y = eqb (n .second) (m .second) in
+    let z = eqb (n .extension) (m .extension) in
+    let p = both (x && y) z h in
+    let q = both x y (p .0) in
+    let e = eqb-true (n .first) (m .first) (q .0) in
+    let f = eqb-true (n .second) (m .second) (q .1) in
+    let g = eqb-true (n .extension) (m .extension) (p .1) in
+    ap (λ (a : ℕ). record { first = a; second = n .second; extension = n .extension }) e
+    ∙ ap (λ (a : ℕ). record { first = m .first; second = a; extension = n .extension }) f
+    ∙ ap (λ (a : ℕ). record { first = m .first; second = m .second; extension = a }) g
+
+same-key : (k l : Key) → sameKey k l ≡ true → k ≡ l
+same-key (File n) (File m) h = ap File (same-name n m h)
+same-key (Open x) (Open y) h = ap Open (eqb-true x y h)
+same-key (File n) (Open y) h = absurd (false≢true h)
+same-key (Open x) (File m) h = absurd (false≢true h)
+
+-- an entry that has this key has no other
+pub holds-key : (k : Key) (e : Entry) → holds k e ≡ true → keyOf e ≡ some k
+unfolding holds
+holds-key k e h = go (keyOf e) h
+  where
+    go : (o : Option Key) → isKey k o ≡ true → o ≡ some k
+    go none h = absurd (false≢true h)
+    go (some l) h = ap some (same-key l k h)
+
+-- the slot at p by what code reads of it
 module _ (d : List ℕ) (p w : ℕ) (wide : 7 ≤ w) where
-  pub can-clash-words : (k : Kind) → k ≡ kindOf (getD d p 0) → isPermanent k || isTentative k ≡ canClash (take w (drop p d))
-  unfolding canClash
-  can-clash-words k e = rw (word0 d p w (omega arith), e)
+  -- whether it can clash, where k is its kind
+  pub can-by-kind : (k : Kind) → k ≡ kindOf (getD d p 0) → onceOn (keyIn k (take w (drop p d))) ≡ canClash (take w (drop p d))
+  unfolding canClash keyOf
+  can-by-kind k e = rw (word0 d p w (omega arith), e)
 
-  pub open-words : (t : Bool) → t ≡ isTentative (kindOf (getD d p 0)) → t ≡ true
-      → Open (getD d (p + 5) 0) ≡ keyOf (take w (drop p d))
-  unfolding keyOf
-  open-words t e h = rw (word0 d p w (omega arith), sym e ∙ h, word d p w 5 (omega arith))
+  -- one that is neither permanent nor tentative can not
+  pub can-not : isPermanent (kindOf (getD d p 0)) ≡ false → isTentative (kindOf (getD d p 0)) ≡ false → false ≡ canClash (take w (drop p d))
+  unfolding canClash keyOf
+  can-not f t = rw (word0 d p w (omega arith)) (go (kindOf (getD d p 0)) f t)
+    where
+      go : (k : Kind) → isPermanent k ≡ false → isTentative k ≡ false → false ≡ onceOn (keyIn k (take w (drop p d)))
+      go Tentative f t = absurd (true≢false t)
+      go Empty f t = refl
+      go Permanent f t = absurd (true≢false f)
+      go End f t = refl
+      go Unknown f t = refl
 
-  pub file-words : (t : Bool) → t ≡ isTentative (kindOf (getD d p 0)) → t ≡ false
-      → File (getD d (p + 1) 0) (getD d (p + 2) 0) (getD d (p + 3) 0) ≡ keyOf (take w (drop p d))
+  pub channel-is : getD d (p + 5) 0 ≡ channelOf (take w (drop p d))
+  channel-is = sym (word d p w 5 (omega arith))
+
+  -- the key of one that can
+  pub open-key : (t : Bool) → t ≡ isTentative (kindOf (getD d p 0)) → t ≡ true
+      → keyOf (take w (drop p d)) ≡ some (Open (getD d (p + 5) 0))
   unfolding keyOf
-  file-words t e h =
-      rw (
-        word0 d p w (omega arith),
-        sym e ∙ h,
-        word d p w 1 (omega arith),
-        word d p w 2 (omega arith),
-        word d p w 3 (omega arith),
-      )
+  open-key t e h = rw (channel-is, word0 d p w (omega arith)) (go (kindOf (getD d p 0)) (sym e ∙ h))
+    where
+      go : (k : Kind) → isTentative k ≡ true → keyIn k (take w (drop p d)) ≡ some (Open (channelOf (take w (drop p d))))
+      go Tentative h = refl
+      go Empty h = absurd (false≢true h)
+      go Permanent h = absurd (false≢true h)
+      go End h = absurd (false≢true h)
+      go Unknown h = absurd (false≢true h)
+
+  pub file-key : (t : Bool) → t ≡ isTentative (kindOf (getD d p 0)) → t ≡ false → canClash (take w (drop p d)) ≡ true
+      → keyOf (take w (drop p d)) ≡ some (File (nameOf (take w (drop p d))))
+  unfolding keyOf
+  file-key t e h can =
+      rw (word0 d p w (omega arith))
+      (go (kindOf (getD d p 0)) (sym e ∙ h) (can-by-kind (kindOf (getD d p 0)) refl ∙ can))
+    where
+      go : (k : Kind) → isTentative k ≡ false → onceOn (keyIn k (take w (drop p d))) ≡ true
+          → keyIn k (take w (drop p d)) ≡ some (File (nameOf (take w (drop p d))))
+      go Permanent h c = refl
+      go Tentative h c = absurd (true≢false h)
+      go Empty h c = absurd (false≢true c)
+      go End h c = absurd (false≢true c)
+      go Unknown h c = absurd (false≢true c)
 
 -- an entry that cannot clash
 module _ (e f : Entry) (h : canClash e ≡ false) where
   no-first : clash e f ≡ false
   unfolding canClash clash
-  no-first =
-      let n = neither (isPermanent (kind e)) (isTentative (kind e)) h in
-      rw (n .0, n .1)
+  no-first = go (keyOf e) h
+    where
+      go : (o : Option Key) → onceOn o ≡ false → clashOn o f ≡ false
+      go none q = refl
+      go (some k) q = rw q
 
   no-second : clash f e ≡ false
   unfolding canClash clash
-  no-second =
-      let n = neither (isPermanent (kind e)) (isTentative (kind e)) h in
-      rw (n .0, n .1, and-false (isPermanent (kind f)), and-false (isTentative (kind f)))
+  no-second = go (keyOf f)
+    where
+      go : (o : Option Key) → clashOn o e ≡ false
+      go none = refl
+      go (some k) =
+          never (once k && holds k e)
+          (λ q.
+          let p = both (once k) (holds k e) q in
+          let n : once k ≡ false = rw (holds-key k e (p .1)) at h in
+          true≢false (sym (p .0) ∙ n))
 
 any-candidates : (f : Entry) (es : List Entry) → any (clash f) (candidates es) ≡ any (clash f) es
 unfolding candidates any
@@ -81,58 +149,22 @@ clashes-candidates (e ∷ es) = go (canClash e) refl (clashes-candidates es)
     go true q r = rw (any-candidates e es, r)
     go false q r = rw (none-any (clash e) es [] (λ i l. no-first e (getD es i []) q)) r
 
-pub candidates-append : (xs ys : List Entry) → candidates (xs ++ ys) ≡ candidates xs ++ candidates ys
-unfolding candidates
-candidates-append [] ys = refl
-candidates-append (x ∷ xs) ys = rw (candidates-append xs ys) (go (canClash x))
-  where
-    go : (t : Bool)
-        → cond t (x ∷ (candidates xs ++ candidates ys)) (candidates xs ++ candidates ys)
-        ≡ cond t (x ∷ candidates xs) (candidates xs) ++ candidates ys
-    go true = refl
-    go false = refl
+-- an entry that can clash, and has this key, against others
+module _ (key : Key) (e : Entry) (has : keyOf e ≡ some key) (can : canClash e ≡ true) where
+  clash-holds : (f : Entry) → clash e f ≡ holds key f
+  unfolding canClash clash
+  clash-holds f =
+      let o : once key ≡ true = rw has at can in
+      rw (has, o)
 
--- an entry that can clash, against another
-clash-keyed : (e f : Entry) → canClash e ≡ true → clash e f ≡ keyed (keyOf e) f
-unfolding canClash clash keyOf permanentNamed tentativeOn
-clash-keyed e f h = go (kind e) refl h
-  where
-    go : (k : Kind) → kind e ≡ k → isPermanent k || isTentative k ≡ true → clash e f ≡ keyed (keyOf e) f
-    go Permanent q h = rw q (or-false _)
-    go Tentative q h = rw q
-    go Empty q h = absurd (false≢true h)
-    go End q h = absurd (false≢true h)
-    go Unknown q h = absurd (false≢true h)
+  pub any-clash : (es : List Entry) → any (clash e) es ≡ any (holds key) es
+  unfolding any
+  any-clash [] = refl
+  any-clash (f ∷ es) = rw (clash-holds f, any-clash es)
 
--- and against many
-pub any-clash : (e : Entry) (es : List Entry) → canClash e ≡ true → any (clash e) es ≡ any (keyed (keyOf e)) es
-unfolding any
-any-clash e [] h = refl
-any-clash e (f ∷ es) h = rw (clash-keyed e f h, any-clash e es h)
-
--- what is found by a key has that key
-not-tentative : (k : Kind) → isPermanent k ≡ true → isTentative k ≡ false
-not-tentative Tentative h = absurd (false≢true h)
-not-tentative Empty h = refl
-not-tentative Permanent h = refl
-not-tentative End h = refl
-not-tentative Unknown h = refl
-
-pub keyed-key : (key : Key) (e : Entry) → keyed key e ≡ true → keyOf e ≡ key
-unfolding permanentNamed tentativeOn named keyOf
-keyed-key (File a b c) e h =
-    let x = eqb (getD e nameWord 0) a in
-    let y = eqb (getD e name2Word 0) b in
-    let z = eqb (getD e extensionWord 0) c in
-    let p = both (isPermanent (kind e)) (x && y && z) h in
-    let q = both (x && y) z (p .1) in
-    let r = both x y (q .0) in
-    rw (
-      not-tentative (kind e) (p .0),
-      eqb-true (getD e nameWord 0) a (r .0),
-      eqb-true (getD e name2Word 0) b (r .1),
-      eqb-true (getD e extensionWord 0) c (q .1),
-    )
-keyed-key (Open x) e h =
-    let p = both (isTentative (kind e)) (eqb (channelOf e) x) h in
-    rw (p .0, eqb-true (channelOf e) x (p .1))
+-- fewer than two entries don't clash
+pub few-seen : (d : List ℕ) (w : ℕ) (ps : List ℕ) (m n : ℕ) → n < 2 → clashes (seen d w ps m n) ≡ false
+unfolding clashes seen any
+few-seen d w ps m zero h = refl
+few-seen d w ps m (suc zero) h = refl
+few-seen d w ps m (suc (suc n)) h = absurd (omega arith)

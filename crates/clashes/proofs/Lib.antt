@@ -1,4 +1,4 @@
-pub mod InPlace
 pub mod Clashing
-pub mod Buckets
 pub mod Listing
+pub mod Placed
+pub mod Buckets

@@ -1,34 +1,55 @@
--- Rule 6, second pass: what an entry is looked for by, the bucket of that, and the latest entry of a bucket.
-use Prim.Native.Nat.{ℕ, zero, suc, _+_, _*_, _-_, _%_, _≤_}
+-- Rule 6, second pass: the listed entries by number, the bucket of a key, and the latest entry of a bucket.
+use Prim.Native.Nat.{ℕ, zero, suc, _+_, _*_, _-_, _/_, _%_, _≤_, _<_}
 use mathlib.Core.Path.{_≡_}
-use mathlib.Core.Bool.{cond}
-use mathlib.Core.List.{List}
-use lib.ListN.{getD}
+use mathlib.Core.Bool.{true, cond}
+use mathlib.Core.List.{List, [], _∷_}
+use mathlib.Core.Option.{Option, none, some}
+use lib.ListN.{length, getD, take, drop}
 use lib.Dec.{eqb}
-use Rattle.meaning.specs.Kinds.{isTentative}
-use Rattle.meaning.specs.Words.{Entry, nameWord, name2Word, extensionWord, kind, channelOf}
-use Rattle.segment.specs.declared.finder.Key.{Key}
-use Rattle.segment.specs.declared.finder.Key.the-variants.{File, Open}
-use Rattle.clashes.specs.Candidates.{numbered}
+use Rattle.meaning.specs.declared.Key.{Key}
+use Rattle.meaning.specs.declared.Key.the-variants.{File, Open}
+use Rattle.meaning.specs.Words.{Entry}
+use Rattle.meaning.specs.Keys.{keyOf}
+use Rattle.clashes.specs.Candidates.{canClash}
 
--- what an entry that can clash is looked for by: an entry clashes with it if it is found so
-unfoldable pub keyOf : Entry → Key
-keyOf e =
-    cond (isTentative (kind e))
-    (Open (channelOf e))
-    (File (getD e nameWord 0) (getD e name2Word 0) (getD e extensionWord 0))
+-- n places are listed in ps, of entries of w words. They are numbered from 1 at the list's end: the entry of number j
+unfoldable pub numbered : List ℕ → ℕ → List ℕ → ℕ → ℕ → Entry
+numbered d w ps n j = take w (drop (getD ps (n - j) 0) d)
 
--- the bucket of three words
+-- the entries of numbers 1 to k, the latest first; so they stand as in the list
+unfoldable pub seen : List ℕ → ℕ → List ℕ → ℕ → ℕ → List Entry
+seen d w ps n zero = []
+seen d w ps n (suc k) = numbered d w ps n (suc k) ∷ seen d w ps n k
+
+-- a place of an entry that can clash
+pub record Candidate (d : List ℕ) (w p : ℕ) : Type 0 where
+  pub fits : p + w ≤ length d
+  pub can : canClash (take w (drop p d)) ≡ true
+
+-- the list that the first pass made
+pub record Places (d : List ℕ) (w : ℕ) (ps : List ℕ) (n : ℕ) : Type 0 where
+  pub wide : 7 ≤ w
+  pub short : length d ≤ 15872
+  pub few : n ≤ 2232
+  pub long : length ps ≡ 2233
+  pub all : (k : ℕ) → k < n → Candidate d w (getD ps k 0)
+
+-- the bucket of three words: their sum with three large odd factors, and of that the bits 32 to 44
 abbrev pub hashed : ℕ → ℕ → ℕ → ℕ
-hashed a b c = (a * 31 + b * 17 + c) % 1021
+hashed a b c = (a * 34011982842585 + b * 20789424455995 + c * 30500104378819) / 4294967296 % 8192
 
 unfoldable pub bucketOf : Key → ℕ
-bucketOf (File a b c) = hashed a b c
+bucketOf (File n) = hashed (n .first) (n .second) (n .extension)
 bucketOf (Open x) = hashed 0 0 x
+
+-- the bucket of an entry
+abbrev pub bucketOn : Option Key → ℕ
+bucketOn none = 0
+bucketOn (some k) = bucketOf k
 
 -- the bucket of the entry of number j, where n places are listed in ps
 unfoldable pub bucketAt : List ℕ → ℕ → List ℕ → ℕ → ℕ → ℕ
-bucketAt d w ps n j = bucketOf (keyOf (numbered d w ps n j))
+bucketAt d w ps n j = bucketOn (keyOf (numbered d w ps n j))
 
 -- the latest of the entries 1 to k in bucket b, or 0
 unfoldable pub latest : List ℕ → ℕ → List ℕ → ℕ → ℕ → ℕ → ℕ

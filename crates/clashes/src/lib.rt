@@ -1,136 +1,158 @@
 // Rule 6 in linear time: to compare all pairs of entries would be 2.4 million comparisons on a full volume. So one pass lists the
 // places of the entries that can clash, in chain order, and a second one takes that list from its end and puts each entry into a
-// bucket by its name or its channel word: entries that clash meet in one bucket. (Only names chosen to share a bucket make it
-// slow.) Throughout, `width` is the words of a slot, and a `place` the word of the directory where an entry begins. Listed entries
-// are numbered from 1 at the list's end: so 0 is none, and those passed so far, the latest first, stand in chain order.
-use meaning::Kind;
+// bucket by its key: entries that clash meet in one bucket. (Only names chosen to share a bucket make it slow.) Throughout, `width`
+// is the words of a slot, `word` the place in a segment where a slot begins, and `place` that in the directory. AllListed entries are
+// numbered from 1 at the list's end: so 0 is none, and those passed so far, the latest first, stand in chain order.
+use meaning::Key;
 use segment::finder;
-use segment::finder::Key;
 use segment::kinds;
+use segment::naming::name_at;
 ghost use mathlib.Core.Path.{_≡_};
 ghost use mathlib.Core.List.{[], _∷_};
-ghost use Prim.Native.Nat.{_+_, _*_, _≤_, _<_};
+ghost use mathlib.Core.Option.{some};
+ghost use Prim.Native.Nat.{_+_, _≤_, _<_};
 ghost use lib.ListN.{length, take, drop};
-ghost use Rattle.meaning.specs.Words.{slotWords, entries};
+ghost use Rattle.meaning.specs.Words.{slotWords, slots, upto};
+ghost use Rattle.meaning.specs.Keys.{keyOf, holds, once};
 ghost use Rattle.meaning.specs.Sound.{any, clashes, bad6};
-ghost use Rattle.segment.specs.Finder.{keyed};
 ghost use Rattle.chain.specs.Chained.{Chained};
-ghost use Rattle.clashes.specs.Candidates.{canClash, seen, Places, Added, Listed};
-ghost use Rattle.clashes.specs.Buckets.{keyOf, hashed, bucketOf, latest, Threaded};
+ghost use Rattle.clashes.specs.Candidates.{canClash, placesOf, Grown, AllListed};
+ghost use Rattle.clashes.specs.Buckets.{seen, Candidate, Places, hashed, bucketOf, latest, Threaded};
 
 // A number for each slot of 31 segments with 72 slots each, and number 0.
 const ROOM: usize = 2233;
 
-// A prime, since Radix-50 words are full of powers of two.
-const BUCKETS: usize = 1021;
+// Nearly four for each of the 2,201 entries that a directory can hold: to meet another entry costs as much as a dozen that meet none.
+const BUCKETS: usize = 8192;
 
-// Whether the entry at this place can clash. All others would only fill the buckets.
-fn can_clash(d: &[u16], place: usize, width: usize) -> bool
-    requires { ⌜ (7 ≤ width) × (place + width ≤ length (now d)) ⌝ }
-    ensures { λ r. ⌜ r ≡ canClash (take width (drop place (now (d .entry)))) ⌝ }
+// Whether a key may stand once only.
+fn is_once(key: Key) -> bool
+    ensures { λ r. ⌜ r ≡ once key ⌝ }
 {
-    let kind = kinds::kind_of(d[place]);
-    match kind {
-        Kind::Permanent => true,
-        Kind::Tentative => true,
-        Kind::Empty => false,
-        Kind::End => false,
-        Kind::Unknown => false,
+    match key {
+        Key::File(_) => true,
+        Key::Open(_) => true,
     }
 }
 
-// The entry at this place listed after `count` others, if it can clash; the answer is how many are listed then.
+// Whether the entry that begins at this word can clash: it has a key, and that may stand once only. All others would only fill
+// the buckets.
+fn can_clash(segment: &[u16], word: usize, width: usize) -> bool
+    requires { ⌜ (7 ≤ width) × (word + width ≤ length (now segment)) ⌝ }
+    ensures { λ r. ⌜ r ≡ canClash (take width (drop word (now (segment .entry)))) ⌝ }
+{
+    let status = segment[word];
+    if kinds::is_permanent(status) {
+        return is_once(Key::File(name_at(segment, word, width)));
+    }
+    if kinds::is_tentative(status) {
+        return is_once(Key::Open(segment[word + 5]));
+    }
+    false
+}
+
+// The place of the entry that begins at this word, listed after `count` others if the entry can clash; the answer is how many are
+// listed then.
 fn list_entry(
-    d: &[u16],
-    place: usize,
+    segment: &[u16],
+    word: usize,
     width: usize,
+    place: usize,
     places: &mut [u16; ROOM],
     count: usize,
 ) -> usize
-    requires { ⌜ Places (now d) width (now places) count × (count < 2232) × (place + width ≤ length (now d)) ⌝ }
-    ensures { λ r. ⌜ Added (now (d .entry)) width (now (places .entry)) count (now (places .exit)) r 1
-        (take width (drop place (now (d .entry))) ∷ []) ⌝ }
+    requires { ⌜ (7 ≤ width) × (word + width ≤ length (now segment)) × (place ≤ 65535)
+        × (length (now places) ≡ 2233) × (count < 2232) ⌝ }
+    ensures { λ r. ⌜ Grown (now (places .entry)) count (now (places .exit)) r 1
+        (placesOf width place (take width (drop word (now (segment .entry))) ∷ [])) ⌝ }
 {
-    if can_clash(d, place, width) {
+    if can_clash(segment, word, width) {
         places[count] = place as u16;
         return count + 1;
     }
     count
 }
 
-// The entries of the segment of this number, up to the marker, listed after `listed` others.
+// The entries of a segment that begins at word `base` of the directory, up to the marker, listed after `listed` others.
 fn list_segment(
-    d: &[u16],
-    number: usize,
+    segment: &[u16],
+    base: usize,
     width: usize,
     places: &mut [u16; ROOM],
     listed: usize,
 ) -> usize
-    requires { ⌜ (width ≡ slotWords (now d)) × (1 ≤ number) × (512 * number ≤ length (now d))
-        × Places (now d) width (now places) listed × (listed ≤ 2160) ⌝ }
-    ensures { λ r. ⌜ Added (now (d .entry)) width (now (places .entry)) listed (now (places .exit)) r 72
-        (entries (now (d .entry)) number) ⌝ }
+    requires { ⌜ (length (now segment) ≡ 512) × (base ≤ 65024) × (7 ≤ width)
+        × (length (now places) ≡ 2233) × (listed ≤ 2160) ⌝ }
+    ensures { λ r. ⌜ Grown (now (places .entry)) listed (now (places .exit)) r 72
+        (placesOf width (base + 5) (upto (slots width (now (segment .entry))))) ⌝ }
 {
     let mut left: usize = 507 / width;
-    let mut place: usize = 512 * (number - 1) + 5;
+    let mut word: usize = 5;
     let mut count: usize = listed;
     while 0 < left {
-        if kinds::is_marker(d[place]) {
+        if kinds::is_marker(segment[word]) {
             return count;
         }
-        count = list_entry(d, place, width, places, count);
-        place += width;
+        count = list_entry(segment, word, width, base + word, places, count);
+        word += width;
         left -= 1;
     }
     count
 }
 
-// The entries of the whole chain, listed.
+// The entries of the whole chain, listed segment by segment.
 fn list_chain(d: &[u16], width: usize, places: &mut [u16; ROOM]) -> usize
     requires { ⌜ Chained (now d) × (width ≡ slotWords (now d)) × (length (now places) ≡ 2233) ⌝ }
-    ensures { λ r. ⌜ Listed (now (d .entry)) width (now (places .exit)) r ⌝ }
+    ensures { λ r. ⌜ AllListed (now (d .entry)) (now (places .exit)) r ⌝ }
 {
     let mut left: usize = d[2] as usize;
     let mut number: usize = 1;
     let mut count: usize = 0;
     while 0 < left {
-        count = list_segment(d, number, width, places, count);
-        number = d[512 * (number - 1) + 1] as usize;
+        let base = 512 * (number - 1);
+        count = list_segment(&d[base..base + 512], base, width, places, count);
+        number = d[base + 1] as usize;
         left -= 1;
     }
     count
 }
 
-// What the entry at this place is looked for by.
+// The key of a listed entry: it is permanent or tentative.
 fn key_at(d: &[u16], place: usize, width: usize) -> Key
-    requires { ⌜ (7 ≤ width) × (place + width ≤ length (now d)) ⌝ }
-    ensures { λ r. ⌜ r ≡ keyOf (take width (drop place (now (d .entry)))) ⌝ }
+    requires { ⌜ (7 ≤ width) × Candidate (now d) width place ⌝ }
+    ensures { λ r. ⌜ keyOf (take width (drop place (now (d .entry)))) ≡ some r ⌝ }
 {
     if kinds::is_tentative(d[place]) {
         return Key::Open(d[place + 5]);
     }
-    Key::File(d[place + 1], d[place + 2], d[place + 3])
+    Key::File(name_at(d, place, width))
 }
 
-// The bucket of three words. Another hash is a change of this line and of its twin in specs/: no proof asks what it is.
+// The bucket of three words. The factors are large, so that each word reaches every bit that is taken, and the sum still fits in 64
+// bits; they were found by trial, so that names that count up in digits or letters, in any word, meet less often than by chance.
+// Another hash is a change of this line and of its twin in specs/: no proof asks what it is.
 fn hash(first: u16, second: u16, third: u16) -> usize
-    ensures { λ r. ⌜ (r ≡ hashed first second third) × (r < 1021) ⌝ }
+    ensures { λ r. ⌜ (r ≡ hashed first second third) × (r < 8192) ⌝ }
 {
-    (first as usize * 31 + second as usize * 17 + third as usize) % BUCKETS
+    (first as usize * 34011982842585
+        + second as usize * 20789424455995
+        + third as usize * 30500104378819)
+        / 4294967296
+        % BUCKETS
 }
 
-// The bucket of what is looked for. A file and a channel word that meet in one cost a comparison and no more.
+// The bucket of a key. A file and a channel word that meet in one cost a comparison and no more.
 fn bucket_of(key: Key) -> usize
-    ensures { λ r. ⌜ (r ≡ bucketOf key) × (r < 1021) ⌝ }
+    ensures { λ r. ⌜ (r ≡ bucketOf key) × (r < 8192) ⌝ }
 {
     match key {
-        Key::File(first, second, extension) => hash(first, second, extension),
+        Key::File(name) => hash(name.first, name.second, name.extension),
         Key::Open(word) => hash(0, 0, word),
     }
 }
 
-// Whether one of the entries 1 to `passed` is the one looked for. `first` is the latest of them in the key's bucket, and `earlier`
-// leads from each to the one before it there; so the entries of other buckets are never read.
+// Whether one of the entries 1 to `passed` has the key. `first` is the latest of them in the key's bucket, and `earlier` leads from
+// each to the one before it there; so the entries of other buckets are never read.
 fn met(
     d: &[u16],
     width: usize,
@@ -143,7 +165,7 @@ fn met(
 ) -> bool
     requires { ⌜ Places (now d) width (now places) count × Threaded (now d) width (now places) count (now earlier) passed
         × (first ≡ latest (now d) width (now places) count (bucketOf key) passed) ⌝ }
-    ensures { λ r. ⌜ r ≡ any (keyed key) (seen (now (d .entry)) width (now (places .entry)) count passed) ⌝ }
+    ensures { λ r. ⌜ r ≡ any (holds key) (seen (now (d .entry)) width (now (places .entry)) count passed) ⌝ }
 {
     let mut number: usize = first;
     while 0 < number {
@@ -189,6 +211,17 @@ fn listed_clash(d: &[u16], width: usize, places: &[u16; ROOM], count: usize) -> 
     false
 }
 
+// The same, where fewer than two entries don't clash: a nearly empty directory then pays for no buckets.
+fn some_clash(d: &[u16], width: usize, places: &[u16; ROOM], count: usize) -> bool
+    requires { ⌜ Places (now d) width (now places) count ⌝ }
+    ensures { λ r. ⌜ r ≡ clashes (seen (now (d .entry)) width (now (places .entry)) count count) ⌝ }
+{
+    if count < 2 {
+        return false;
+    }
+    listed_clash(d, width, places, count)
+}
+
 // Rule 6: whether two permanent entries have equal names, or two tentative entries equal channel words.
 pub fn entries_clash(d: &[u16]) -> bool
     requires { ⌜ Chained (now d) ⌝ }
@@ -197,5 +230,5 @@ pub fn entries_clash(d: &[u16]) -> bool
     let width = 7 + (d[3] / 2) as usize;
     let mut places = [0u16; ROOM];
     let count = list_chain(d, width, &mut places);
-    listed_clash(d, width, &places, count)
+    some_clash(d, width, &places, count)
 }

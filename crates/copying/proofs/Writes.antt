@@ -77,7 +77,7 @@ slot-written g b a w p q hp hq e =
     let u = pasted b a s q (omega arith) f in
     record { words = u .words; next = rw j refl; long = u .long }
 
-set-add : (xs ys : List ℕ) (n x : ℕ) → set (xs ++ ys) (length xs + n) x ≡ xs ++ set ys n x
+pub set-add : (xs ys : List ℕ) (n x : ℕ) → set (xs ++ ys) (length xs + n) x ≡ xs ++ set ys n x
 set-add [] ys n x = rw (zero-add n)
 set-add (y ∷ xs) ys n x = rw (suc-add (length xs) n) (ap {B = List ℕ} (λ l. y ∷ l) (set-add xs ys n x))
 
@@ -100,7 +100,7 @@ set-written b s a q z n x h i u =
     }
 
 -- zeros
-drop-zeros : (n m : ℕ) → drop {A = ℕ} n (replicate m 0) ≡ replicate (m - n) 0
+pub drop-zeros : (n m : ℕ) → drop {A = ℕ} n (replicate m 0) ≡ replicate (m - n) 0
 drop-zeros zero m = rw (sub-zero m)
 drop-zeros (suc n) zero = rw (zero-sub (suc n))
 drop-zeros (suc n) (suc m) = rw (suc-sub-suc m n) (drop-zeros n m)

@@ -1,8 +1,7 @@
-// Words copied into a slice. What enter changes is built in a zeroed array and copied back, so that nothing that is still to be read
-// is written over.
+// Words copied into a slice, moved up within it, and made 0.
 ghost use mathlib.Core.Path.{_≡_};
-ghost use Prim.Native.Nat.{_+_, _≤_};
-ghost use lib.ListN.{length};
+ghost use Prim.Native.Nat.{_+_, _-_, _≤_};
+ghost use lib.ListN.{length, take, drop, replicate};
 ghost use lib.Seq.{paste};
 ghost use Rattle.copying.specs.Written.{Written};
 
@@ -25,4 +24,31 @@ pub fn put_words(source: &[u16], target: &mut [u16], place: usize) -> usize
 {
     copy_words(source, target, place);
     place + source.len()
+}
+
+// The words from `start` to `end`, moved up by so many places; those that they leave free stay as they were. The last word goes first,
+// so that none is written over before it is read.
+pub fn move_up(words: &mut [u16], start: usize, end: usize, by: usize)
+    requires { ⌜ (start ≤ end) × (end + by ≤ length (now words)) ⌝ }
+    ensures { λ _. ⌜ Written (now (words .entry)) (start + by) (take (end - start) (drop start (now (words .entry)))) (now (words .exit))
+        (end + by) ⌝ }
+{
+    let mut i: usize = end;
+    while start < i {
+        i -= 1;
+        words[i + by] = words[i];
+    }
+}
+
+// The words from `start` on, made 0.
+pub fn clear_from(words: &mut [u16], start: usize)
+    requires { ⌜ start ≤ length (now words) ⌝ }
+    ensures { λ _. ⌜ Written (now (words .entry)) start (replicate (length (now (words .entry)) - start) 0)
+        (now (words .exit)) (length (now (words .entry))) ⌝ }
+{
+    let mut i: usize = start;
+    while i < words.len() {
+        words[i] = 0;
+        i += 1;
+    }
 }

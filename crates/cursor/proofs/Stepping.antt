@@ -1,11 +1,11 @@
--- A step of the cursor as code takes it. The slot of a cursor lies in its segment, and so in the directory, word for word; an entry
--- that stands there is the first of the rows from there on, and where none does the rows are those of the segment that the link
--- names, or none. Assumes nothing.
-use Prim.Native.Nat.{ℕ, zero, suc, _+_, _*_, _-_, _/_, _≤_, _<_}
+-- A step of the cursor as code takes it. The slot of a cursor lies in its segment, word for word; an entry that stands there is the
+-- first of the rows from there on, and where none does the rows are those of the segment that the link names, or none.
+-- Assumes nothing.
+use Prim.Native.Nat.{ℕ, zero, suc, _+_, _*_, _-_, _≤_, _<_}
 use mathlib.Core.Path.{_≡_, refl, sym, ap, _∙_}
 use mathlib.Core.Bool.{Bool, true, false, cond, _&&_, not, true≢false}
 use mathlib.Core.List.{List, [], _∷_}
-use native.Mathlib.Nat.{add-zero, suc-mul, zero-mul, mul-le-mul-right, div-mul-le-self}
+use native.Mathlib.Nat.{suc-mul, zero-mul, mul-le-mul-right, div-mul-le-self}
 use native.Mathlib.Omega.{arith}
 use lib.ListN.{length, getD, take, drop}
 use lib.Seq.{drop-drop, drop-cons, drop-length}
@@ -14,13 +14,15 @@ use borrow.Author.Tests.{leb-true, leb-false, le-leb, not-true}
 use Rattle.bools.proofs.Bools.{both}
 use Rattle.meaning.specs.declared.Kind.{Kind}
 use Rattle.meaning.specs.Kinds.{kindOf, isEnd}
-use Rattle.meaning.specs.Words.{Row, segments, segment, slotWords, slotCount, kind, chunks, slots, upto, rowsIn}
-use Rattle.segment.proofs.Slots.{word, mul-less}
-use Rattle.cursor.specs.Cursor.{isSegment, inside, Standing, placed, slotsHere, rowHere, onEntry, firstSlot}
-use Rattle.cursor.specs.Cursor.{entriesHere, rowsHere, rowsFrom, rowsAt, past, entryStep, stepOf, stepAt}
+use Rattle.meaning.specs.declared.Name.{Name}
+use Rattle.meaning.specs.Words.{Row, segments, segment, slotWords, slotCount, nameOf, kind, chunks, slots, upto, rowsIn}
+use Rattle.segment.proofs.Slots.{word, word0, mul-less}
+use Rattle.cursor.specs.Cursor.{isSegment, inside, AtEntry, slotPlace, slotIn, isEntry, rowIn, onEntry, rowHere, firstSlot}
+use Rattle.cursor.specs.Cursor.{entriesHere, rowsHere, rowsFrom, rowsAt, past, entryStep, firstStep, stepAt}
 use Rattle.cursor.specs.declared.Cursor.{Cursor}
+use Rattle.cursor.specs.declared.Step.{Step}
 use Rattle.cursor.specs.declared.Step.the-variants.{Entry, End}
-use Rattle.chain.proofs.Links.{header, linkAt}
+use Rattle.chain.proofs.Links.{base, header, part-is, linkAt}
 
 pub segment-is : (d : List ℕ) (s : ℕ) → isSegment d s ≡ true → (1 ≤ s) × (512 * s ≤ length d)
 unfolding isSegment
@@ -33,7 +35,7 @@ pub is-segment : (d : List ℕ) (s : ℕ) → 1 ≤ s → 512 * s ≤ length d �
 unfolding isSegment
 is-segment d s l h = rw (le-leb 1 s l, le-leb s (segments d) (omega arith))
 
-pub standing : (d : List ℕ) (c : Cursor) → inside d c ≡ true → Standing d c
+pub standing : (d : List ℕ) (c : Cursor) → inside d c ≡ true → AtEntry d c
 unfolding inside
 standing d c e =
     let a = isSegment d (c .seg) in
@@ -51,7 +53,7 @@ standing d c e =
       small = leb-true (c .first) 65535 (p .1);
     }
 
-pub stands : (d : List ℕ) (c : Cursor) → Standing d c → inside d c ≡ true
+pub stands : (d : List ℕ) (c : Cursor) → AtEntry d c → inside d c ≡ true
 unfolding inside
 stands d c s =
     rw (
@@ -61,12 +63,7 @@ stands d c s =
       le-leb (c .first) 65535 (s .small),
     )
 
--- slots before slot k, and slot k itself, end within the 507 words
-pub before-fits : (w k : ℕ) → 1 ≤ k → k ≤ slotCount w + 1 → (k - 1) * w ≤ 507
-before-fits w k l h =
-    let m : k - 1 ≤ 507 / w = omega arith in
-    omega (arith, mul-le-mul-right w m, div-mul-le-self 507 w)
-
+-- slot k ends within the 507 words
 pub slot-fits : (w k : ℕ) → 1 ≤ k → k ≤ slotCount w → (k - 1) * w + w ≤ 507
 slot-fits w k l h = omega (arith, mul-less k w l, mul-le-mul-right w h, div-mul-le-self 507 w)
 
@@ -88,75 +85,68 @@ chunk-at (suc n) w (suc k) l h =
     let m : suc k * w ≡ w + k * w = suc-mul k w ∙ omega arith in
     chunk-at n w k (drop w l) (omega arith) ∙ rw (drop-drop (k * w) w l, m)
 
-module _ (d : List ℕ) (c : Cursor) (s : Standing d c) where
-  -- the words of the slot, in the directory
-  pub word-here : (j : ℕ) → j < slotWords d → c .slot ≤ slotCount (slotWords d)
-      → getD (rowHere d c .entry) j 0 ≡ getD d (placed d c + j) 0
-  unfolding rowHere placed slots
-  word-here j h m =
-      let w = slotWords d in
-      let k = c .slot - 1 in
-      let g = segment d (c .seg) in
-      let f = slot-fits w (c .slot) (s .some) m in
-      let e : 512 * (c .seg - 1) + (5 + k * w + j) ≡ 512 * (c .seg - 1) + 5 + k * w + j = omega arith in
-      ap (λ (x : List ℕ). getD x j 0) (chunk-at (slotCount w) w k (drop 5 g) (omega arith) ∙ ap (take w) (drop-drop (k * w) 5 g))
-      ∙ word g (5 + k * w) w j h
-      ∙ header d (c .seg) (5 + k * w + j) (omega arith)
-      ∙ ap (λ (x : ℕ). getD d x 0) e
+-- slot k of the segment g
+pub slot-is : (w : ℕ) (g : List ℕ) (k : ℕ) → 1 ≤ k → k ≤ slotCount w → slotIn w g k ≡ take w (drop (slotPlace w k) g)
+unfolding slots
+slot-is w g k l h = chunk-at (slotCount w) w (k - 1) (drop 5 g) (omega arith) ∙ ap (take w) (drop-drop ((k - 1) * w) 5 g)
 
-  -- the status word, which code reads at the place and not at the place + 0
-  pub word-here0 : c .slot ≤ slotCount (slotWords d) → getD (rowHere d c .entry) 0 0 ≡ getD d (placed d c) 0
-  word-here0 m = word-here 0 (omega arith) m ∙ ap (λ (x : ℕ). getD d x 0) (add-zero (placed d c))
+-- whether an entry stands there, by its status word
+pub stands-by : (w : ℕ) (g : List ℕ) (k : ℕ) (marker : Bool) → 7 ≤ w → 1 ≤ k → k ≤ slotCount w
+    → marker ≡ isEnd (kindOf (getD g (slotPlace w k) 0))
+    → not marker ≡ isEntry w g k
+unfolding isEntry
+stands-by w g k marker wide l h e =
+    rw (le-leb k (slotCount w) h, slot-is w g k l h, word0 g (slotPlace w k) w (omega arith), e)
 
-  pub place-fits : c .slot ≤ slotCount (slotWords d) → placed d c + slotWords d ≤ length d
-  unfolding placed
-  place-fits m = let f = slot-fits (slotWords d) (c .slot) (s .some) m in omega arith
+-- the entry that a step gives, by the words that code reads in the segment g
+pub sees : (w : ℕ) (g : List ℕ) (b : ℕ) (c : Cursor) (p : ℕ) (k : Kind) (n : Name) → 7 ≤ w → 1 ≤ c .slot → c .slot ≤ slotCount w
+    → p ≡ slotPlace w (c .slot)
+    → k ≡ kindOf (getD g p 0)
+    → n ≡ nameOf (take w (drop p g))
+    → Entry
+    (record {
+      seg = c .seg;
+      slot = c .slot;
+      at = b + p;
+      first = c .first;
+      kind = k;
+      name = n;
+      length = getD g (p + 4) 0;
+      channel = getD g (p + 5) 0;
+      date = getD g (p + 6) 0;
+    })
+    (record { seg = c .seg; slot = c .slot + 1; first = c .first + getD g (p + 4) 0 })
+    ≡ entryStep (rowIn w g b c)
+unfolding rowIn
+sees w g b c p k n wide l h e f i =
+    let q = slotPlace w (c .slot) in
+    rw (
+      f,
+      i,
+      e,
+      slot-is w g (c .slot) l h,
+      word0 g q w (omega arith),
+      word g q w 4 (omega arith),
+      word g q w 5 (omega arith),
+      word g q w 6 (omega arith),
+    )
 
-  -- the entry that a step gives, by the words that code reads
-  pub sees : (p : ℕ) (k : Kind) → c .slot ≤ slotCount (slotWords d) → p ≡ placed d c → k ≡ kindOf (getD d p 0)
-      → Entry
-      (record {
-        seg = c .seg;
-        slot = c .slot;
-        at = p;
-        first = c .first;
-        kind = k;
-        name = record { first = getD d (p + 1) 0; second = getD d (p + 2) 0; extension = getD d (p + 3) 0 };
-        length = getD d (p + 4) 0;
-        channel = getD d (p + 5) 0;
-        date = getD d (p + 6) 0;
-      })
-      (record { seg = c .seg; slot = c .slot + 1; first = c .first + getD d (p + 4) 0 })
-      ≡ entryStep (rowHere d c)
-  unfolding rowHere
-  sees p k m e f =
-      rw (
-        f,
-        e,
-        word-here0 m,
-        word-here 1 (omega arith) m,
-        word-here 2 (omega arith) m,
-        word-here 3 (omega arith) m,
-        word-here 4 (omega arith) m,
-        word-here 5 (omega arith) m,
-        word-here 6 (omega arith) m,
-      )
-
+module _ (d : List ℕ) (c : Cursor) (s : AtEntry d c) where
   -- past the last slot there are no entries
   past-last : slotCount (slotWords d) < c .slot → entriesHere d c ≡ []
   unfolding entriesHere upto
   past-last h =
-      let l = slotsHere d c in
+      let l = slots (slotWords d) (segment d (c .seg)) in
       let e : c .slot - 1 ≡ length l = rw (length-slots (slotWords d) (segment d (c .seg))) (omega arith) in
       rw (e, drop-length l)
 
   -- the entries from a slot on, by whether the marker stands there
   by-marker : c .slot ≤ slotCount (slotWords d)
       → entriesHere d c ≡ cond (isEnd (kind (rowHere d c .entry))) [] (rowHere d c .entry ∷ entriesHere d (past (rowHere d c)))
-  unfolding entriesHere upto rowHere
+  unfolding entriesHere upto rowIn
   by-marker m =
       let k = c .slot - 1 in
-      let l = slotsHere d c in
+      let l = slots (slotWords d) (segment d (c .seg)) in
       let e = getD l k [] in
       let long : k < length l = rw (length-slots (slotWords d) (segment d (c .seg))) (omega arith) in
       let a : suc k ≡ c .slot + 1 - 1 = omega arith in
@@ -165,7 +155,7 @@ module _ (d : List ℕ) (c : Cursor) (s : Standing d c) where
 
   -- no entry stands there
   pub ahead-none : onEntry d c ≡ false → entriesHere d c ≡ []
-  unfolding onEntry
+  unfolding isEntry rowIn
   ahead-none e = go (leb (c .slot) (slotCount (slotWords d))) (isEnd (kind (rowHere d c .entry))) refl refl e
     where
       go : (t u : Bool) → leb (c .slot) (slotCount (slotWords d)) ≡ t → isEnd (kind (rowHere d c .entry)) ≡ u → t && not u ≡ false
@@ -180,7 +170,7 @@ module _ (d : List ℕ) (c : Cursor) (s : Standing d c) where
 
   -- one does
   pub ahead-some : onEntry d c ≡ true → entriesHere d c ≡ rowHere d c .entry ∷ entriesHere d (past (rowHere d c))
-  unfolding onEntry
+  unfolding isEntry rowIn
   ahead-some e =
       let m = leb (c .slot) (slotCount (slotWords d)) in
       let n = isEnd (kind (rowHere d c .entry)) in
@@ -188,25 +178,25 @@ module _ (d : List ℕ) (c : Cursor) (s : Standing d c) where
       let q = not-true n (p .1) in
       by-marker (leb-true (c .slot) (slotCount (slotWords d)) (p .0)) ∙ rw q
 
-  place-past : placed d (past (rowHere d c)) ≡ placed d c + slotWords d
-  unfolding placed rowHere
+  place-past : rowHere d (past (rowHere d c)) .at ≡ rowHere d c .at + slotWords d
+  unfolding rowIn
   place-past =
       let w = slotWords d in
       let f : c .slot + 1 - 1 ≡ c .slot = omega arith in
       rw f (omega (arith, mul-less (c .slot) w (s .some)))
 
   pub here-some : onEntry d c ≡ true → rowsHere d c ≡ rowHere d c ∷ rowsHere d (past (rowHere d c))
-  unfolding rowsHere rowsIn rowHere
+  unfolding rowsHere rowsIn rowIn
   here-some e = rw (ahead-some e, place-past)
 
   pub entry-slot : onEntry d c ≡ true → c .slot ≤ slotCount (slotWords d)
-  unfolding onEntry
+  unfolding isEntry rowIn
   entry-slot e =
       let m = leb (c .slot) (slotCount (slotWords d)) in
       leb-true (c .slot) (slotCount (slotWords d)) (both m (not (isEnd (kind (rowHere d c .entry)))) e .0)
 
   -- a turn of a step, with n segments to ask. An entry ends it
-  from-entry : (n : ℕ) → 0 < n → onEntry d c ≡ true → stepOf (rowsFrom n d c) ≡ entryStep (rowHere d c)
+  from-entry : (n : ℕ) → 0 < n → onEntry d c ≡ true → firstStep (rowsFrom n d c) ≡ entryStep (rowHere d c)
   unfolding rowsFrom
   from-entry zero h e = absurd (omega arith)
   from-entry (suc n) h e = rw (here-some e)
@@ -226,10 +216,21 @@ module _ (d : List ℕ) (c : Cursor) (s : Standing d c) where
   from-last zero h e g = absurd (omega arith)
   from-last (suc n) h e g = rw (here-none e, header d (c .seg) 1 (omega arith), g)
 
+-- what is read in the part of the slice that is the cursor's segment
+module _ (d : List ℕ) (c : Cursor) (w : ℕ) (e : w ≡ slotWords d) where
+  abbrev part : List ℕ
+  part = take (base (c .seg) + 512 - base (c .seg)) (drop (base (c .seg)) d)
+
+  pub entry-part : {t : Bool} → t ≡ isEntry w part (c .slot) → t ≡ onEntry d c
+  entry-part h = rw (e, part-is d (c .seg)) at h
+
+  pub row-part : {r : Step} → r ≡ entryStep (rowIn w part (base (c .seg)) c) → r ≡ entryStep (rowHere d c)
+  row-part h = rw (e, part-is d (c .seg)) at h
+
 -- the walk's invariant: left segments are still to be asked, from here on
 pub record Stepping (d : List ℕ) (cursor : Cursor) (left : ℕ) (here : Cursor) : Type 0 where
   pub asked : inside d cursor ≡ true
-  pub stands : Standing d here
+  pub stands : AtEntry d here
   pub few : left ≤ 31
   pub same : rowsFrom left d here ≡ rowsAt d cursor
 
@@ -240,7 +241,7 @@ steps d c e = record { asked = e; stands = standing d c e; few = omega arith; sa
 -- what the walk answers where the rows are known
 answers : {d : List ℕ} {cursor : Cursor} {left : ℕ} {here : Cursor} (w : Stepping d cursor left here) (rs : List Row)
     → rowsFrom left d here ≡ rs
-    → stepOf rs ≡ stepAt d cursor
+    → firstStep rs ≡ stepAt d cursor
 unfolding stepAt
 answers w rs e = rw (w .asked, ← w .same, e)
 
@@ -267,7 +268,7 @@ at-none {d} {cursor} {left} {here} w h =
 pub at-link : {d : List ℕ} {cursor : Cursor} {left : ℕ} {here : Cursor} (to : Cursor) → Stepping d cursor left here → 0 < left
     → onEntry d here ≡ false
     → isSegment d (linkAt d (here .seg)) ≡ true
-    → (to ≡ firstSlot d (linkAt d (here .seg))) × Standing d to
+    → (to ≡ firstSlot d (linkAt d (here .seg))) × AtEntry d to
     → Stepping d cursor (left - 1) to
 at-link {d} {cursor} {left} {here} to w h e g t = record {
   asked = w .asked;

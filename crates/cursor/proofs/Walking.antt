@@ -1,12 +1,12 @@
 -- A walk with the cursor through a sound directory. A cursor on the way has right links ahead of it, and the blocks from there on
 -- fill the volume, so that none is above 65,535. From the start the rows ahead are all rows; a step gives the first row ahead; and
 -- past a row the rows ahead are those that followed it. Assumes nothing.
-use Prim.Native.Nat.{ℕ, zero, suc, _+_, _*_, _-_, _≤_, _<_}
+use Prim.Native.Nat.{ℕ, zero, suc, _+_, _-_, _≤_, _<_}
 use mathlib.Core.Path.{_≡_, refl, sym, _∙_}
 use mathlib.Core.Bool.{Bool, true, false, not}
 use mathlib.Core.List.{List, [], _∷_, _++_}
 use mathlib.Core.Logic.{⊎-elim}
-use native.Mathlib.Nat.{add-zero, zero-mul}
+use native.Mathlib.Nat.{zero-mul}
 use native.Mathlib.Omega.{arith}
 use lib.Dec.{eqb}
 use borrow.Author.Tests.{eqb-true, not-false}
@@ -17,8 +17,8 @@ use Rattle.meaning.specs.Sound.{bad1, bad2, bad3, bad4, bad5, bad6, filled, rul
 use Rattle.walks.specs.Links.{linked}
 use Rattle.walks.proofs.Heads.{sized}
 use Rattle.chain.specs.Chained.{Chained}
-use Rattle.cursor.specs.Cursor.{isSegment, Standing, placed, rowHere, onEntry, firstSlot, entriesHere, rowsHere}
-use Rattle.cursor.specs.Cursor.{rowsFrom, rowsAt, seenOf, past, stepOf, stepAt}
+use Rattle.cursor.specs.Cursor.{isSegment, AtEntry, rowIn, rowHere, onEntry, firstSlot, entriesHere, rowsHere}
+use Rattle.cursor.specs.Cursor.{rowsFrom, rowsAt, seenOf, past, firstStep, stepAt}
 use Rattle.cursor.specs.declared.Cursor.{Cursor}
 use Rattle.cursor.specs.declared.Seen.{Seen}
 use Rattle.cursor.specs.declared.Step.the-variants.{Entry, End}
@@ -52,8 +52,8 @@ link d s = linkOf (segment d s)
 
 -- the rows of a segment are those from its first slot on
 first-rows : (d : List ℕ) (s : ℕ) → rowsHere d (firstSlot d s) ≡ segmentRows d s
-unfolding rowsHere firstSlot entriesHere placed segmentRows entries
-first-rows d s = rw (zero-mul (slotWords d), add-zero (512 * (s - 1) + 5), header d s 4 (omega arith))
+unfolding rowsHere firstSlot entriesHere rowIn segmentRows entries
+first-rows d s = rw (zero-mul (slotWords d), header d s 4 (omega arith))
 
 first-entries : (d : List ℕ) (s : ℕ) → entriesHere d (firstSlot d s) ≡ entries d s
 unfolding firstSlot entriesHere entries
@@ -72,7 +72,7 @@ pub record On (v : ℕ) (d : List ℕ) (c : Cursor) : Type 0 where
   pub some : 1 ≤ c .slot
   pub most : c .slot ≤ slotCount (slotWords d) + 1
 
-pub on-stands : {v : ℕ} {d : List ℕ} {c : Cursor} → On v d c → Standing d c
+pub on-stands : {v : ℕ} {d : List ℕ} {c : Cursor} → On v d c → AtEntry d c
 on-stands {v} {d} {c} o =
     let f = filled-most v d (c .first + total (entriesHere d c)) (chainFrom (o .left) d (link d (c .seg))) (o .fills) in
     record {
@@ -166,7 +166,7 @@ from-start v d e =
     ∙ rw (first-rows d 1, chain-step (highest d) d 1 (k .some))
 
 -- a step gives the first row ahead
-pub step-on : {v : ℕ} {d : List ℕ} {c : Cursor} → On v d c → stepAt d c ≡ stepOf (rowsAt d c)
+pub step-on : {v : ℕ} {d : List ℕ} {c : Cursor} → On v d c → stepAt d c ≡ firstStep (rowsAt d c)
 unfolding stepAt
 step-on {v} {d} {c} o = rw (stands d c (on-stands o))
 
@@ -187,7 +187,7 @@ pub record Went (v : ℕ) (d : List ℕ) (c : Cursor) (seen : Seen) (to : Cursor
 module _ {v : ℕ} {d : List ℕ} where
   -- an entry stands at the cursor
   on-past : {c : Cursor} → On v d c → onEntry d c ≡ true → On v d (past (rowHere d c))
-  unfolding rowHere total
+  unfolding rowIn total
   on-past {c} o e =
       let x = ahead-some d c (on-stands o) e in
       let r = rowHere d c in
@@ -208,7 +208,7 @@ module _ {v : ℕ} {d : List ℕ} where
       }
 
   here-past : {c : Cursor} → On v d c → onEntry d c ≡ true → rowsAt d c ≡ rowHere d c ∷ rowsAt d (past (rowHere d c))
-  unfolding rowHere rowsAt
+  unfolding rowIn rowsAt
   here-past {c} o e =
       let b = from-chain (o .left) 31 (past (rowHere d c)) (o .chained) (omega arith) (o .links) in
       ahead o ∙ rw (here-some d c (on-stands o) e, b)
@@ -273,14 +273,14 @@ module _ {v : ℕ} {d : List ℕ} where
   pub ended : {c : Cursor} → On v d c → stepAt d c ≡ End → rowsAt d c ≡ []
   ended {c} o e = go (rowsAt d c) (sym (step-on o) ∙ e)
     where
-      go : (rs : List Row) → stepOf rs ≡ End → rs ≡ []
+      go : (rs : List Row) → firstStep rs ≡ End → rs ≡ []
       go [] f = refl
       go (r ∷ rs) f = let z : _≡_ {A = ℕ} 0 1 = cc in absurd (omega arith)
 
   pub went : {c : Cursor} → On v d c → (seen : Seen) (to : Cursor) → stepAt d c ≡ Entry seen to → Went v d c seen to
   went {c} o seen to e = go (rowsAt d c) refl (sym (step-on o) ∙ e)
     where
-      go : (rs : List Row) → rowsAt d c ≡ rs → stepOf rs ≡ Entry seen to → Went v d c seen to
+      go : (rs : List Row) → rowsAt d c ≡ rs → firstStep rs ≡ Entry seen to → Went v d c seen to
       go [] f g = let z : _≡_ {A = ℕ} 0 1 = cc in absurd (omega arith)
       go (r ∷ rs) f g =
           let p = passed o r rs f in

@@ -7,7 +7,7 @@ use lib.ListN.{length, getD, drop}
 use lib.Dec.{leb}
 use Rattle.meaning.specs.Kinds.{isEnd}
 use Rattle.meaning.specs.Words.{segments, segment, linkOf, slotWords, slotCount, kind, blocks, channelOf, dateOf}
-use Rattle.meaning.specs.Words.{nameWord, name2Word, extensionWord, slots, upto, Row, rowsIn}
+use Rattle.meaning.specs.Words.{nameOf, slots, upto, Row, rowsIn}
 use Rattle.cursor.specs.declared.Cursor.{Cursor}
 use Rattle.cursor.specs.declared.Seen.{Seen}
 use Rattle.cursor.specs.declared.Step.{Step}
@@ -26,34 +26,41 @@ inside d c =
     && leb (c .first) 65535
 
 -- the same as numbers
-pub record Standing (d : List ℕ) (c : Cursor) : Type 0 where
+pub record AtEntry (d : List ℕ) (c : Cursor) : Type 0 where
   pub low : 1 ≤ c .seg
   pub high : 512 * c .seg ≤ length d
   pub some : 1 ≤ c .slot
   pub most : c .slot ≤ slotCount (slotWords d) + 1
   pub small : c .first ≤ 65535
 
--- the place of the cursor's slot
-unfoldable pub placed : List ℕ → Cursor → ℕ
-placed d c = 512 * (c .seg - 1) + 5 + (c .slot - 1) * slotWords d
+-- the word of its segment where slot k begins, of slots of w words
+abbrev pub slotPlace : ℕ → ℕ → ℕ
+slotPlace w k = 5 + (k - 1) * w
 
--- the slots of the cursor's segment
-abbrev pub slotsHere : List ℕ → Cursor → List (List ℕ)
-slotsHere d c = slots (slotWords d) (segment d (c .seg))
+-- slot k of the segment whose words are g
+abbrev pub slotIn : ℕ → List ℕ → ℕ → List ℕ
+slotIn w g k = getD (slots w g) (k - 1) []
 
--- the row of the cursor's slot
-unfoldable pub rowHere : List ℕ → Cursor → Row
-rowHere d c = record {
+-- an entry stands there
+unfoldable pub isEntry : ℕ → List ℕ → ℕ → Bool
+isEntry w g k = leb k (slotCount w) && not (isEnd (kind (slotIn w g k)))
+
+-- the row of the cursor's slot, where its segment has the words g and begins at word b
+unfoldable pub rowIn : ℕ → List ℕ → ℕ → Cursor → Row
+rowIn w g b c = record {
   seg = c .seg;
   slot = c .slot;
-  at = placed d c;
+  at = b + slotPlace w (c .slot);
   first = c .first;
-  entry = getD (slotsHere d c) (c .slot - 1) [];
+  entry = slotIn w g (c .slot);
 }
 
--- it is an entry's
-unfoldable pub onEntry : List ℕ → Cursor → Bool
-onEntry d c = leb (c .slot) (slotCount (slotWords d)) && not (isEnd (kind (rowHere d c .entry)))
+-- the same in the whole directory
+abbrev pub onEntry : List ℕ → Cursor → Bool
+onEntry d c = isEntry (slotWords d) (segment d (c .seg)) (c .slot)
+
+abbrev pub rowHere : List ℕ → Cursor → Row
+rowHere d c = rowIn (slotWords d) (segment d (c .seg)) (512 * (c .seg - 1)) c
 
 -- the cursor at the first slot of segment s
 unfoldable pub firstSlot : List ℕ → ℕ → Cursor
@@ -61,10 +68,10 @@ firstSlot d s = record { seg = s; slot = 1; first = getD d (512 * (s - 1) + 4) 0
 
 -- the entries of the cursor's segment, from its slot on, and their rows
 unfoldable pub entriesHere : List ℕ → Cursor → List (List ℕ)
-entriesHere d c = upto (drop (c .slot - 1) (slotsHere d c))
+entriesHere d c = upto (drop (c .slot - 1) (slots (slotWords d) (segment d (c .seg))))
 
 unfoldable pub rowsHere : List ℕ → Cursor → List Row
-rowsHere d c = rowsIn (slotWords d) (c .seg) (c .slot) (placed d c) (c .first) (entriesHere d c)
+rowsHere d c = rowsIn (slotWords d) (c .seg) (c .slot) (rowHere d c .at) (c .first) (entriesHere d c)
 
 -- the rows from a cursor on, of at most n segments
 unfoldable pub rowsFrom : ℕ → List ℕ → Cursor → List Row
@@ -86,11 +93,7 @@ seenOf r = record {
   at = r .at;
   first = r .first;
   kind = kind (r .entry);
-  name = record {
-    first = getD (r .entry) nameWord 0;
-    second = getD (r .entry) name2Word 0;
-    extension = getD (r .entry) extensionWord 0;
-  };
+  name = nameOf (r .entry);
   length = blocks (r .entry);
   channel = channelOf (r .entry);
   date = dateOf (r .entry);
@@ -104,9 +107,9 @@ past r = record { seg = r .seg; slot = r .slot + 1; first = r .first + blocks (r
 abbrev pub entryStep : Row → Step
 entryStep r = Entry (seenOf r) (past r)
 
-abbrev pub stepOf : List Row → Step
-stepOf [] = End
-stepOf (r ∷ rs) = entryStep r
+abbrev pub firstStep : List Row → Step
+firstStep [] = End
+firstStep (r ∷ rs) = entryStep r
 
 unfoldable pub stepAt : List ℕ → Cursor → Step
-stepAt d c = cond (inside d c) (stepOf (rowsAt d c)) End
+stepAt d c = cond (inside d c) (firstStep (rowsAt d c)) End

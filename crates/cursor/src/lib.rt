@@ -1,13 +1,15 @@
 // The entries one by one, in chain order: a cursor stands at a slot, and a step gives the next entry and the cursor past it. So
 // nothing is walked twice. A cursor is plain numbers that anyone can make, so a step tests them, and every link that it follows.
+// Each slot is read in the 512-word part of the directory that is its segment; `width` is the words of a slot.
 use meaning::Kind;
 use meaning::Name;
 use segment::kinds;
+use segment::naming::name_at;
 ghost use mathlib.Core.Path.{_≡_};
-ghost use Prim.Native.Nat.{_*_, _≤_};
+ghost use Prim.Native.Nat.{_+_, _*_, _≤_};
 ghost use lib.ListN.{length};
 ghost use Rattle.meaning.specs.Words.{slotWords, slotCount};
-ghost use Rattle.cursor.specs.Cursor.{Standing, isSegment, inside, placed, onEntry, rowHere, firstSlot, entryStep, stepAt};
+ghost use Rattle.cursor.specs.Cursor.{AtEntry, isSegment, inside, slotPlace, isEntry, rowIn, firstSlot, entryStep, stepAt};
 
 // A segment, a slot in it, both counted from 1, and the first block of an entry that stands there.
 pub struct Cursor {
@@ -69,46 +71,44 @@ fn is_inside(d: &[u16], cursor: Cursor) -> bool
     cursor.first <= 65535
 }
 
-// The place of the cursor's slot.
-fn place_of(d: &[u16], cursor: Cursor) -> usize
-    requires { ⌜ Standing (now d) cursor ⌝ }
-    ensures { λ r. ⌜ r ≡ placed (now (d .entry)) cursor ⌝ }
+// The word of its segment where a slot begins.
+fn word_of(width: usize, slot: usize) -> usize
+    requires { ⌜ (1 ≤ slot) × (slot ≤ slotCount width) ⌝ }
+    ensures { λ r. ⌜ (r ≡ slotPlace width slot) × (r + width ≤ 512) ⌝ }
 {
-    512 * (cursor.seg - 1) + 5 + (cursor.slot - 1) * width_of(d)
+    5 + (slot - 1) * width
 }
 
-// Whether an entry stands at the cursor: neither the marker nor the end of the segment's slots.
-fn on_entry(d: &[u16], cursor: Cursor) -> bool
-    requires { ⌜ Standing (now d) cursor ⌝ }
-    ensures { λ r. ⌜ r ≡ onEntry (now (d .entry)) cursor ⌝ }
+// Whether an entry stands in this slot of a segment: neither the marker nor the end of the segment's slots.
+fn on_entry(segment: &[u16], width: usize, slot: usize) -> bool
+    requires { ⌜ (length (now segment) ≡ 512) × (7 ≤ width) × (1 ≤ slot) ⌝ }
+    ensures { λ r. ⌜ r ≡ isEntry width (now (segment .entry)) slot ⌝ }
 {
-    if 507 / width_of(d) < cursor.slot {
+    if 507 / width < slot {
         return false;
     }
-    !kinds::is_marker(d[place_of(d, cursor)])
+    !kinds::is_marker(segment[word_of(width, slot)])
 }
 
-// The entry at the cursor. Its length is added in a usize, so that no sum is reduced by 65,536.
-fn see_entry(d: &[u16], cursor: Cursor) -> Step
-    requires { ⌜ Standing (now d) cursor × (cursor .slot ≤ slotCount (slotWords (now d))) ⌝ }
-    ensures { λ r. ⌜ r ≡ entryStep (rowHere (now (d .entry)) cursor) ⌝ }
+// The entry at the cursor, whose segment begins at word `base` of the directory. Its length is added in a usize, so that no sum is
+// reduced by 65,536.
+fn see_entry(segment: &[u16], base: usize, width: usize, cursor: Cursor) -> Step
+    requires { ⌜ (length (now segment) ≡ 512) × (base + 512 ≤ 18446744073709551615) × (7 ≤ width)
+        × (1 ≤ cursor .slot) × (cursor .slot ≤ slotCount width) × (cursor .first ≤ 65535) ⌝ }
+    ensures { λ r. ⌜ r ≡ entryStep (rowIn width (now (segment .entry)) base cursor) ⌝ }
 {
-    let at = place_of(d, cursor);
-    let length = d[at + 4];
+    let word = word_of(width, cursor.slot);
+    let length = segment[word + 4];
     let seen = Seen {
         seg: cursor.seg,
         slot: cursor.slot,
-        at,
+        at: base + word,
         first: cursor.first,
-        kind: kinds::kind_of(d[at]),
-        name: Name {
-            first: d[at + 1],
-            second: d[at + 2],
-            extension: d[at + 3],
-        },
+        kind: kinds::kind_of(segment[word]),
+        name: name_at(segment, word, width),
         length,
-        channel: d[at + 5],
-        date: d[at + 6],
+        channel: segment[word + 5],
+        date: segment[word + 6],
     };
     let past = Cursor {
         seg: cursor.seg,
@@ -121,7 +121,7 @@ fn see_entry(d: &[u16], cursor: Cursor) -> Step
 // The cursor at the first slot of a segment.
 fn first_slot(d: &[u16], number: usize) -> Cursor
     requires { ⌜ (1 ≤ number) × (512 * number ≤ length (now d)) ⌝ }
-    ensures { λ r. ⌜ (r ≡ firstSlot (now (d .entry)) number) × Standing (now (d .entry)) r ⌝ }
+    ensures { λ r. ⌜ (r ≡ firstSlot (now (d .entry)) number) × AtEntry (now (d .entry)) r ⌝ }
 {
     Cursor {
         seg: number,
@@ -156,13 +156,15 @@ pub fn step_from(d: &[u16], cursor: Cursor) -> Step
     if !is_inside(d, cursor) {
         return Step::End;
     }
+    let width = width_of(d);
     let mut here = cursor;
     let mut left: usize = 31;
     while 0 < left {
-        if on_entry(d, here) {
-            return see_entry(d, here);
+        let base = 512 * (here.seg - 1);
+        if on_entry(&d[base..base + 512], width, here.slot) {
+            return see_entry(&d[base..base + 512], base, width, here);
         }
-        let link = d[512 * (here.seg - 1) + 1] as usize;
+        let link = d[base + 1] as usize;
         if !is_segment(d, link) {
             return Step::End;
         }

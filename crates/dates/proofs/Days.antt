@@ -9,7 +9,7 @@ use mathlib.Core.Logic.{_⊎_, inl, inr, ⊎-elim}
 use borrow.Author.Tests.{leb-true, eqb-true, eq-eqb, ne-eqb}
 use lib.ListN.{getD, List·getD-eq-default}
 use lib.Dec.{eqb, leb}
-use Rattle.dates.specs.Dates.{years, monthLengths, isLeap, daysIn, inCalendar, dateWord, dayField, monthField, namesDay, goodDate}
+use Rattle.dates.specs.Dates.{years, monthLengths, isLeap, daysIn, inCalendar, packedDay, dayField, monthField, namesDay, goodDate}
 use Rattle.dates.specs.Dates.{wordOfDay, dayOfWord}
 use Rattle.bools.proofs.Bools.{both, either, either-side}
 use Rattle.bools.proofs.Below.{every, below}
@@ -68,36 +68,36 @@ calendar-parts d m y h =
 
 -- the fields of a day's word
 pub record Fields (d m y : ℕ) : Type 0 where
-  pub day : dayField (dateWord d m y) ≡ d
-  pub month : monthField (dateWord d m y) ≡ m
-  pub year : years .named (dateWord d m y) ≡ y
+  pub day : dayField (packedDay d m y) ≡ d
+  pub month : monthField (packedDay d m y) ≡ m
+  pub year : years .named (packedDay d m y) ≡ y
 
 pub fields : (d m y : ℕ) → inCalendar d m y ≡ true → Fields d m y
-unfolding dayField monthField dateWord years
+unfolding dayField monthField packedDay years
 fields d m y h =
     let c = calendar-parts d m y h in
     let p = c .from in
     let q = c .to in
     record { day = omega arith; month = omega arith; year = omega arith }
 
-pub word-named : (d m y : ℕ) → inCalendar d m y ≡ true → namesDay (dateWord d m y) ≡ true
+pub word-named : (d m y : ℕ) → inCalendar d m y ≡ true → namesDay (packedDay d m y) ≡ true
 unfolding namesDay
 word-named d m y h =
     let f = fields d m y h in
-    rw (f .day, f .month, f .year, h) (eq-eqb (dateWord d m y) (dateWord d m y) refl)
+    rw (f .day, f .month, f .year, h) (eq-eqb (packedDay d m y) (packedDay d m y) refl)
 
 -- a good word that names a day, taken apart
 pub named-parts : (w : ℕ) → namesDay w ≡ true
     → (inCalendar (dayField w) (monthField w) (years .named w) ≡ true)
-    × (dateWord (dayField w) (monthField w) (years .named w) ≡ w)
+    × (packedDay (dayField w) (monthField w) (years .named w) ≡ w)
 unfolding namesDay
 named-parts w h =
-    let p = both (inCalendar (dayField w) (monthField w) (years .named w)) (eqb (dateWord (dayField w) (monthField w) (years .named w)) w) h in
-    (p .0, eqb-true (dateWord (dayField w) (monthField w) (years .named w)) w (p .1))
+    let p = both (inCalendar (dayField w) (monthField w) (years .named w)) (eqb (packedDay (dayField w) (monthField w) (years .named w)) w) h in
+    (p .0, eqb-true (packedDay (dayField w) (monthField w) (years .named w)) w (p .1))
 
 -- A date word is good exactly when it is 0 or is the word of some calendar day
 pub IsWordOfDay : ℕ → Type 0
-IsWordOfDay w = (d : ℕ) × (m : ℕ) × (y : ℕ) × (inCalendar d m y ≡ true) × (dateWord d m y ≡ w)
+IsWordOfDay w = (d : ℕ) × (m : ℕ) × (y : ℕ) × (inCalendar d m y ≡ true) × (packedDay d m y ≡ w)
 
 pub good-is : (w : ℕ) → goodDate w ≡ true → (w ≡ 0) ⊎ IsWordOfDay w
 unfolding goodDate IsWordOfDay
@@ -109,7 +109,7 @@ good-is w h =
 pub is-good : (w : ℕ) → (w ≡ 0) ⊎ IsWordOfDay w → goodDate w ≡ true
 unfolding goodDate IsWordOfDay
 is-good w h =
-    ⊎-elim (λ e. rw (eq-eqb w 0 e)) (λ n. rw (← n .4, word-named (n .0) (n .1) (n .2) (n .3)) (or-true (eqb (dateWord (n .0) (n .1) (n .2)) 0))) h
+    ⊎-elim (λ e. rw (eq-eqb w 0 e)) (λ n. rw (← n .4, word-named (n .0) (n .1) (n .2) (n .3)) (or-true (eqb (packedDay (n .0) (n .1) (n .2)) 0))) h
 
 -- Day to word and back is the same day for every calendar day
 pub day-word-day : (d m y : ℕ) → inCalendar d m y ≡ true

@@ -35,8 +35,8 @@ inCalendar day month year =
     leb (years .first) year && leb year (years .last) && leb 1 day && leb day (daysIn month year)
 
 -- Date word: month·1024 + day·32 + (year − 1972)
-unfoldable pub dateWord : ℕ → ℕ → ℕ → ℕ
-dateWord day month year = month * 1024 + day * 32 + years .part year
+unfoldable pub packedDay : ℕ → ℕ → ℕ → ℕ
+packedDay day month year = month * 1024 + day * 32 + years .part year
 
 -- the fields of a date word
 unfoldable pub dayField : ℕ → ℕ
@@ -51,7 +51,7 @@ namesDay word =
     let day = dayField word in
     let month = monthField word in
     let year = years .named word in
-    inCalendar day month year && eqb (dateWord day month year) word
+    inCalendar day month year && eqb (packedDay day month year) word
 
 -- Word 0 means no date and is allowed; any other word that names no calendar day is bad
 unfoldable pub goodDate : ℕ → Bool
@@ -61,7 +61,7 @@ goodDate word = eqb word 0 || namesDay word
 unfoldable pub wordOfDay : ℕ → ℕ → ℕ → DayWord
 wordOfDay day month year =
     cond (inCalendar day month year)
-    (record { number = 0; word = dateWord day month year })
+    (record { number = 0; word = packedDay day month year })
     (record { number = 9; word = 0 })
 
 -- reading a bad word answers 9, reading word 0 success, both with day, month and year 0

@@ -1,7 +1,7 @@
 // Date words (document 01, "Names and dates"): a calendar day, and the word that names it. Nothing here knows of directories.
 ghost use mathlib.Core.Path.{_≡_};
 ghost use mathlib.Core.Bool.{true};
-ghost use Rattle.dates.specs.Dates.{isLeap, daysIn, inCalendar, dateWord, years, namesDay};
+ghost use Rattle.dates.specs.Dates.{isLeap, daysIn, inCalendar, packedDay, years, namesDay};
 ghost use Rattle.dates.specs.Dates.{goodDate, wordOfDay, dayOfWord};
 
 // The length of each month; there is no month 0.
@@ -69,7 +69,7 @@ fn in_calendar(day: u16, month: u16, year: u16) -> bool
 
 fn date_word(day: u16, month: u16, year: u16) -> u16
     requires { ⌜ inCalendar day month year ≡ true ⌝ }
-    ensures { λ r. ⌜ r ≡ dateWord day month year ⌝ }
+    ensures { λ r. ⌜ r ≡ packedDay day month year ⌝ }
 {
     month * 1024 + day * 32 + (year - FIRST_YEAR)
 }

@@ -6,7 +6,8 @@ use mathlib.Core.Path.{_≡_, refl, ap, _∙_}
 use mathlib.Core.List.{List, [], _∷_, _++_, append-nil, append-assoc}
 use lib.ListN.{length, take, drop, set, replicate, drop-of-length-le, replicate-append-replicate}
 use Rattle.meaning.specs.Words.{segments, firstData}
-use Rattle.meaning.specs.Requests.{entryOf, flat, render, freshWords}
+use Rattle.meaning.specs.Kinds.{emptyStatus, endStatus}
+use Rattle.meaning.specs.Requests.{entryOf, emptyEntry, flat, render, freshWords}
 
 pub all-cleared : (d : List ℕ) (i : ℕ) → i ≤ length d → length d ≤ i → replicate i 0 ++ drop i d ≡ replicate (length d) 0
 all-cleared d i l h =
@@ -42,31 +43,31 @@ more-zeros k a b x =
 
 -- the marker among zeros, and the same words as the rest of a rendered segment with b zeros after it
 marked : (extra j z b m : ℕ) → extra < j → j ≤ extra + suc z → j - suc extra + b ≡ m
-    → set {A = ℕ} (replicate (extra + suc m) 0) extra 2048 ≡ take j (replicate extra 0 ++ 2048 ∷ replicate z 0) ++ replicate b 0
+    → set {A = ℕ} (replicate (extra + suc m) 0) extra endStatus ≡ take j (replicate extra 0 ++ endStatus ∷ replicate z 0) ++ replicate b 0
 marked extra j z b m l h e =
-    rw (set-zeros extra m 2048, cut-zeros extra j z 2048 l h, more-zeros extra (j - suc extra) b 2048, e)
+    rw (set-zeros extra m endStatus, cut-zeros extra j z endStatus l h, more-zeros extra (j - suc extra) b endStatus, e)
 
 -- the words of a fresh start on L words, set one by one among zeros
 set-words : (l n x y extra b m : ℕ) → l ≡ 13 + extra + m → 500 - suc extra + b ≡ m → extra ≤ 16
-    → set {A = ℕ} (set (set (set (set (set (set (replicate l 0) 0 n) 2 1) 3 (2 * extra)) 4 x) 5 512) 9 y) (12 + extra) 2048
-    ≡ render (n ∷ 0 ∷ 1 ∷ 2 * extra ∷ x ∷ []) (entryOf (7 + extra) 512 0 0 0 y 0 0 ∷ []) ++ replicate b 0
+    → set {A = ℕ} (set (set (set (set (set (set (replicate l 0) 0 n) 2 1) 3 (2 * extra)) 4 x) 5 emptyStatus) 9 y) (12 + extra) endStatus
+    ≡ render (n ∷ 0 ∷ 1 ∷ 2 * extra ∷ x ∷ []) (emptyEntry (7 + extra) y ∷ []) ++ replicate b 0
 unfolding render flat entryOf
 set-words l n x y extra b m e h few =
     let f : l ≡ suc (suc (suc (suc (suc (suc (suc (suc (suc (suc (suc (suc (extra + suc m)))))))))))) = omega arith in
     let g : 12 + extra ≡ suc (suc (suc (suc (suc (suc (suc (suc (suc (suc (suc (suc extra))))))))))) = omega arith in
     let k : 7 + extra - 7 ≡ extra = omega arith in
     rw (f, g, k)
-    (ap (λ (t : List ℕ). n ∷ 0 ∷ 1 ∷ 2 * extra ∷ x ∷ 512 ∷ 0 ∷ 0 ∷ 0 ∷ y ∷ 0 ∷ 0 ∷ t)
+    (ap (λ (t : List ℕ). n ∷ 0 ∷ 1 ∷ 2 * extra ∷ x ∷ emptyStatus ∷ 0 ∷ 0 ∷ 0 ∷ y ∷ 0 ∷ 0 ∷ t)
     (marked extra 500 512 b m (omega arith) (omega arith) h))
 
 pub started : (v : ℕ) (d : List ℕ) (extra : ℕ) → length d ≡ 512 * segments d → 1 ≤ segments d → extra ≤ 16
     → set
     (set
-    (set (set (set (set (set (replicate (length d) 0) 0 (segments d)) 2 1) 3 (2 * extra)) 4 (firstData d)) 5 512)
+    (set (set (set (set (set (replicate (length d) 0) 0 (segments d)) 2 1) 3 (2 * extra)) 4 (firstData d)) 5 emptyStatus)
     9
     (v - firstData d))
     (12 + extra)
-    2048
+    endStatus
     ≡ freshWords v d extra
 unfolding freshWords
 started v d extra whole some few =

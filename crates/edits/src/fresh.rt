@@ -1,4 +1,6 @@
 // A fresh start: all words 0 but segment 1's header, one empty entry and a marker.
+use meaning::EMPTY;
+use meaning::END;
 ghost use mathlib.Core.Path.{_≡_};
 ghost use Prim.Native.Nat.{_≤_};
 ghost use lib.ListN.{length, replicate};
@@ -26,7 +28,7 @@ pub fn start_fresh(words: &mut [u16], v: usize, extra: usize)
     words[2] = 1;
     words[3] = (2 * extra) as u16;
     words[4] = first as u16;
-    words[5] = 512;
+    words[5] = EMPTY;
     words[9] = (v - first) as u16;
-    words[12 + extra] = 2048;
+    words[12 + extra] = END;
 }

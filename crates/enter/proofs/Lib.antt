@@ -1,3 +1,3 @@
-pub mod Copied
+pub mod Ready
 pub mod Placing
 pub mod Surveyed

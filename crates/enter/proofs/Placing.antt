@@ -1,38 +1,39 @@
--- The area that was chosen is one where the new entry may be put: it stands in a segment in use of the tidied directory, which is sound,
--- so its slot, its room and its blocks are as the insertion asks. What is put there is then the outcome of the meaning, since that asks
--- the area for its segment, the entries before it and its cost alone.
-use Prim.Native.Nat.{ℕ, _*_, _-_, _+_, _≤_}
+-- The area that was chosen is one where the new entry may be put: it stands in a segment in use of the tidied directory, which has the
+-- chain and the sums of the directory as it came, so its slot, its room and its blocks are as the insertion asks. What is put there is
+-- then the outcome of the meaning, since that asks the area for its segment, the entries before it and its cost alone.
+use Prim.Native.Nat.{ℕ, _*_, _-_, _+_, _≤_, _<_}
 use native.Mathlib.Omega.{arith}
 use mathlib.Core.Path.{_≡_, refl, sym, ap, _∙_}
-use mathlib.Core.Bool.{Bool, true, false}
-use mathlib.Core.List.{List, [], _∷_, _++_}
+use mathlib.Core.Bool.{false≢true}
+use mathlib.Core.List.{List, []}
 use mathlib.Core.Option.{Option, none, some}
-use lib.ListN.{length, getD}
+use lib.ListN.{length, getD, drop}
+use lib.Seq.{drop-drop}
 use Rattle.meaning.specs.declared.Name.{Name}
-use Rattle.meaning.specs.Words.{slotWords, Entry, blocks, segment, firstOf, entries, total, chain}
+use Rattle.meaning.specs.Words.{slotWords, slotCount, lengthWord, Entry, blocks, segment, slots, firstOf, highest, entries}
+use Rattle.meaning.specs.Words.{total, chain}
 use Rattle.meaning.specs.Sound.{fault}
 use Rattle.meaning.specs.declared.Answer.{Answer}
-use Rattle.meaning.specs.Answers.{Outcome, refuse, success}
-use Rattle.meaning.specs.Enter.{Area, costAfter, tidied, areas, eligibles, firstFit, unsplit, split, entered}
-use Rattle.laws.proofs.Soundness.{sound}
-use Rattle.laws.proofs.Way.{chain-used}
-use Rattle.laws.proofs.Anew.{ends-within}
-use Rattle.laws.proofs.TidiedSound.{tidied-sound, tidied-chain}
-use Rattle.laws.proofs.Fine.{flag}
-use Rattle.laws.proofs.Areas as law
+use Rattle.meaning.specs.Answers.{Outcome, success, isNone}
+use Rattle.meaning.specs.Enter.{Area, tidied, areas, eligibles, firstFit, unsplit, split, entered}
+use Rattle.segment.proofs.Slots.{word}
 use Rattle.chain.specs.Chained.{Chained}
+use Rattle.chain.proofs.Faults.{fifth}
 use Rattle.chain.proofs.Chains.{fault-chained}
+use Rattle.tidy.specs.Tidied.{TidyKept}
+use Rattle.chain.proofs.Links.{header}
 use Rattle.tidy.proofs.InPlace.{tidied-kept}
-use Rattle.tidy.proofs.AfterTidy.{slots-same}
+use Rattle.tidy.proofs.AfterTidy.{slots-same, highest-same, first-same, total-same, ends-by}
 use Rattle.choice.specs.declared.choose.AreaPlace.{AreaPlace}
 use Rattle.choice.specs.declared.choose.Chosen.{Chosen}
 use Rattle.choice.specs.declared.choose.Chosen.the-variants.{At, Nothing}
-use Rattle.choice.specs.Choice.{Stands, Fitted, placeOf}
+use Rattle.choice.specs.Choice.{Stands, Fitted, placeOfArea}
 use Rattle.choice.proofs.FirstFit.{chosen-area, chosen-none}
+use Rattle.render.proofs.Chunks.{entry-at}
 use Rattle.insert.specs.declared.place.Spot.{Spot}
 use Rattle.insert.specs.Spots.{areaOf, Enterable}
-use Rattle.enter.specs.Entering.{newOf, placedIn}
-use Rattle.enter.proofs.Copied.{volume}
+use Rattle.enter.specs.Entering.{newOf, Fits, placedIn}
+use Rattle.enter.proofs.Ready.{volume}
 
 -- the spot of a place
 abbrev pub spotAt : AreaPlace → Spot
@@ -44,68 +45,77 @@ answer-of o = o .answer
 abbrev pub words-of : Outcome → List ℕ
 words-of o = o .words
 
-cost-some : (b : Bool) → 1 ≤ costAfter b
-unfolding costAfter
-cost-some true = omega arith
-cost-some false = omega arith
+-- the length of the entry after k others of segment s, where its words stand
+entry-blocks : (t : List ℕ) (s k : ℕ) → k < length (entries t s) → 5 + k * slotWords t + slotWords t ≤ 512
+    → blocks (getD (entries t s) k []) ≡ getD t (512 * (s - 1) + (5 + k * slotWords t + lengthWord)) 0
+unfolding entries slots
+entry-blocks t s k h l =
+    let w : ℕ = slotWords t in
+    let i = entry-at (slotCount w) w (drop 5 (segment t s)) k h in
+    let p : 5 + k * w + 4 < 512 = omega arith in
+    ap blocks i ∙ rw (drop-drop (k * w) 5 (segment t s), word (segment t s) (5 + k * w) w 4 (omega arith), header t s (5 + k * w + 4) p)
 
-at-middle : (xs : List Entry) (e : Entry) (ys : List Entry) → getD (xs ++ e ∷ ys) (length xs) [] ≡ e
-at-middle [] e ys = refl
-at-middle (x ∷ xs) e ys = at-middle xs e ys
-
-same-area : (t : List ℕ) (new : Entry) (n w : ℕ) (a : Area) → entered t new n a ≡ entered t new n (areaOf (spotAt (placeOf w a)))
+same-area : (t : List ℕ) (new : Entry) (n w : ℕ) (a : Area) → entered t new n a ≡ entered t new n (areaOf (spotAt (placeOfArea w a)))
 unfolding entered unsplit split
 same-area t new n w a = refl
 
-place-at : (p : AreaPlace) (a : Area) (w : ℕ) → p ≡ placeOf w a → p .at ≡ 512 * (p .seg - 1) + 5 + p .before * w
+place-at : (p : AreaPlace) (a : Area) (w : ℕ) → p ≡ placeOfArea w a → p .at ≡ 512 * (p .seg - 1) + 5 + p .before * w
 place-at p a w e = rw e
+
+-- the tidied directory can be followed
+pub tidied-chained : (v : ℕ) (d : List ℕ) → fault v d ≡ 0 → Chained (tidied d (chain d))
+tidied-chained v d h = tidied-kept d (fault-chained v d h) .chained
 
 module _ (v : ℕ) (d : List ℕ) (h : fault v d ≡ 0) (n : ℕ) where
   abbrev pub t : List ℕ
   t = tidied d (chain d)
 
-  area-enterable : (a : Area) → firstFit n (eligibles (areas t (chain t))) ≡ some a → Stands (placeOf (slotWords t) a) t n
-      → Enterable t (spotAt (placeOf (slotWords t) a)) n
-  area-enterable a e s =
-      let st = sound v t (tidied-sound v d h) in
-      let x = law.chosen t (chain t) (chain-used v t st) n a e in
-      let y = x .stood .stands in
-      let c = cost-some (flag false (y .before)) in
-      let before : a .before ≡ length (y .before) = omega (arith, y .place) in
-      let j : getD (entries t (a .seg)) (a .before) [] ≡ y .here =
-      ap (λ (k : ℕ). getD (entries t (a .seg)) k []) before
-      ∙ rw (y .are) (at-middle (y .before) (y .here) (y .after)) in
-      let l = ends-within v t st (a .seg) (s .low) (s .high) in
-      let q = volume v d h in
+  kept : TidyKept d t
+  kept = tidied-kept d (fault-chained v d h)
+
+  -- a segment in use ends by V
+  ends : (s : ℕ) → 1 ≤ s → s ≤ highest t → firstOf (segment t s) + total (entries t s) ≤ 65535
+  ends s l m =
+      let x = fault-chained v d h in
+      let k : s ≤ highest d = omega (arith, highest-same d t kept) in
+      omega (arith, first-same d t kept s l, total-same d t kept x s l k, ends-by v d x (fifth v d h) s l k, volume v d h)
+
+  area-enterable : (a : Area) → Stands (placeOfArea (slotWords t) a) t n → Enterable t (spotAt (placeOfArea (slotWords t) a)) n
+  area-enterable a s =
+      let w : ℕ = slotWords t in
+      let b : ℕ = 512 * (a .seg - 1) in
+      let at : b + (5 + a .before * w + lengthWord) ≡ b + 5 + a .before * w + lengthWord = omega arith in
+      let j : blocks (getD (entries t (a .seg)) (a .before) []) ≡ a .size =
+      entry-blocks t (a .seg) (a .before) (s .among) (omega (arith, s .inside, s .low)) ∙ rw at (sym (s .word)) in
       record {
-        chained = fault-chained v t (tidied-sound v d h);
+        chained = kept .chained;
         chosen = record {
           low = s .low;
           high = s .high;
           there = s .among;
+          costs = s .costs;
           cheap = s .cheap;
           place = omega arith;
-          costs = omega (arith, y .cost);
-          fits = rw j (omega (arith, y .size, x .enough));
+          fits = omega (arith, j, s .long);
         };
         room = s .roomy;
-        sums = omega arith;
+        sums = ends (a .seg) (s .low) (s .high);
       }
 
   pub enterable : (r : Chosen) (p : AreaPlace) → Fitted r t n → r ≡ At p → Enterable t (spotAt p) n
   enterable r p f e =
       let k : Fitted (At p) t n = rw e at f in
       let b = chosen-area (slotWords t) (firstFit n (eligibles (areas t (chain t)))) p (k .is) in
-      rw (b .2) (area-enterable (b .0) (b .1) (rw (b .2) at (k .stands)))
+      rw (b .2) (area-enterable (b .0) (rw (b .2) at (k .stands)))
 
-  -- the outcome, where an area was chosen and where none was
-  placed-area : (a : Area) (p : AreaPlace) → p ≡ placeOf (slotWords t) a → firstFit n (eligibles (areas t (chain t))) ≡ some a
+  -- the outcome
+  placed-area : (a : Area) (p : AreaPlace) → p ≡ placeOfArea (slotWords t) a → firstFit n (eligibles (areas t (chain t))) ≡ some a
       → (name : Name) (channel date : ℕ)
       → placedIn d name n channel date ≡ success (p .first) n date (entered t (newOf t name n channel date) n (areaOf (spotAt p)))
   placed-area a p q e name channel date =
       let i : firstFit n (eligibles (areas t (chain d))) ≡ some a =
-      ap (λ (ss : List ℕ). firstFit n (eligibles (areas t ss))) (sym (tidied-chain v d h)) ∙ e in
-      let w : slotWords t ≡ slotWords d = slots-same d t (tidied-kept d (fault-chained v d h)) in
+      ap (λ (ss : List ℕ). firstFit n (eligibles (areas t ss))) (sym (kept .links)) ∙ e in
+      let w : slotWords t ≡ slotWords d = slots-same d t kept in
       rw (i, q, w, same-area t (newOf d name n channel date) n (slotWords d) a)
 
   pub placed-at : (r : Chosen) (p : AreaPlace) → Fitted r t n → r ≡ At p → (name : Name) (channel date : ℕ)
@@ -115,24 +125,21 @@ module _ (v : ℕ) (d : List ℕ) (h : fault v d ≡ 0) (n : ℕ) where
       let b = chosen-area (slotWords t) (firstFit n (eligibles (areas t (chain t)))) p (k .is) in
       placed-area (b .0) p (b .2) (b .1)
 
-  pub placed-nowhere : (r : Chosen) → Fitted r t n → r ≡ Nothing → (name : Name) (channel date : ℕ)
-      → placedIn d name n channel date ≡ refuse 12 d
-  placed-nowhere r f e name channel date =
+  -- an area that fits is chosen
+  pub somewhere : (r : Chosen) → Fitted r t n → Fits d n → r ≡ Nothing → ⊥
+  somewhere r f g e =
       let k : Fitted Nothing t n = rw e at f in
       let i : firstFit n (eligibles (areas t (chain d))) ≡ none =
-      ap (λ (ss : List ℕ). firstFit n (eligibles (areas t ss))) (sym (tidied-chain v d h))
+      ap (λ (ss : List ℕ). firstFit n (eligibles (areas t ss))) (sym (kept .links))
       ∙ chosen-none (slotWords t) (firstFit n (eligibles (areas t (chain t)))) (k .is) in
-      rw i
+      false≢true (sym g ∙ ap (λ (o : Option Area). isNone o) i)
 
   -- the first block fits a word
   pub first-small : (r : Chosen) (p : AreaPlace) → Fitted r t n → r ≡ At p → p .first ≤ 65535
   first-small r p f e =
       let k : Fitted (At p) t n = rw e at f in
       let x = k .stands in
-      let l = ends-within v t (sound v t (tidied-sound v d h)) (p .seg) (x .low) (x .high) in
-      let m = x .ends in
-      let q = volume v d h in
-      omega arith
+      omega (arith, ends (p .seg) (x .low) (x .high), x .ends)
 
   -- the slot stands behind its segment's start
   pub at-after : (r : Chosen) (p : AreaPlace) → Fitted r t n → r ≡ At p → 512 * (p .seg - 1) ≤ p .at

@@ -1,59 +1,56 @@
-// Enter on a sound directory. It is tidied in a copy, the area is chosen and the new entry put there; only then the copy replaces the
-// directory, so that a refusal for want of room has changed no word.
+// Enter on a sound directory. Whether there is room is found on the words as they are, so that a refusal has changed no word; only
+// then is the directory tidied and the new entry put into its area, all in place.
 use choice::choose::Chosen;
 use choice::choose::first_fit;
-use choice::choose::survey_areas;
-use copying::copy_words;
 use insert::place::Spot;
 use insert::place::enter_area;
 use meaning::Answer;
 use meaning::Name;
+use meaning::refused;
+use meaning::succeeded;
 use render::Tentative;
 use size::Asked;
 use size::at_least;
 use size::wanted_of;
+use survey::areas::survey_areas;
 use tidy::tidy::tidy_all;
 ghost use mathlib.Core.Path.{_≡_};
-ghost use lib.ListN.{length, take};
 ghost use Rattle.meaning.specs.Words.{chain};
 ghost use Rattle.meaning.specs.Sound.{fault};
 ghost use Rattle.meaning.specs.Enter.{tidied};
+ghost use Rattle.meaning.specs.Answers.{Meets};
 ghost use Rattle.size.specs.Asks.{sizeBy};
-ghost use Rattle.enter.specs.Entering.{Entered, placedIn, entering};
+ghost use Rattle.enter.specs.Entering.{anyUntidy, Fits, placedIn, entering};
 
-// A copy of the directory, tidied. A directory has at most 31 segments.
-fn tidied_copy(d: &[u16], v: usize) -> [u16; 15872]
-    requires { ⌜ fault v (now d) ≡ 0 ⌝ }
-    ensures { λ r. ⌜ take (length (now (d .entry))) r ≡ tidied (now (d .entry)) (chain (now (d .entry))) ⌝ }
+// The directory tidied. Where no segment is untidy, as most often, nothing is walked for it.
+fn tidy_if(d: &mut [u16], v: usize, untidy: bool)
+    requires { ⌜ (fault v (now d) ≡ 0) × (untidy ≡ anyUntidy (now d)) ⌝ }
+    ensures { λ _. ⌜ now (d .exit) ≡ tidied (now (d .entry)) (chain (now (d .entry))) ⌝ }
 {
-    let mut copy = [0u16; 15872];
-    let end = d.len();
-    copy_words(d, &mut copy, 0);
-    tidy_all(&mut copy[..end]);
-    copy
+    if !untidy {
+        return;
+    }
+    tidy_all(d);
 }
 
-// The new entry put into the first area that is long enough, in the tidied copy, which then replaces the directory.
+// The directory tidied, and the new entry put into the first area that is long enough. It is known that there is one.
 fn place_file(
     d: &mut [u16],
     v: usize,
-    copy: &mut [u16],
+    untidy: bool,
     blocks: u16,
     name: Name,
     channel: u16,
     date: u16,
 ) -> Answer
-    requires { ⌜ (fault v (now d) ≡ 0) × (now copy ≡ tidied (now d) (chain (now d))) ⌝ }
-    ensures { λ r. ⌜ Entered r (now (d .exit)) (placedIn (now (d .entry)) name blocks channel date) ⌝ }
+    requires { ⌜ (fault v (now d) ≡ 0) × (untidy ≡ anyUntidy (now d)) × Fits (now d) blocks ⌝ }
+    ensures { λ r. ⌜ Meets r (now (d .exit)) (placedIn (now (d .entry)) name blocks channel date) ⌝ }
 {
-    let chosen = first_fit(copy, blocks as usize);
+    tidy_if(d, v, untidy);
+    let chosen = first_fit(d, blocks as usize);
+    // This is never so: that `Fits` rules it out is proved.
     let Chosen::At(area) = chosen else {
-        return Answer {
-            number: 12,
-            first: 0,
-            length: 0,
-            date: 0,
-        };
+        return refused(12);
     };
     let spot = Spot {
         seg: area.seg,
@@ -62,21 +59,13 @@ fn place_file(
         cost: area.cost,
     };
     let new = Tentative {
-        first: name.first,
-        second: name.second,
-        extension: name.extension,
+        name,
         length: blocks,
         channel,
         date,
     };
-    enter_area(copy, spot, new);
-    copy_words(copy, d, 0);
-    Answer {
-        number: 0,
-        first: area.first as u16,
-        length: blocks,
-        date,
-    }
+    enter_area(d, spot, new);
+    succeeded(area.first as u16, blocks, date)
 }
 
 // Enter, once nothing but want of room can refuse it.
@@ -89,27 +78,16 @@ pub fn enter_file(
     date: u16,
 ) -> Answer
     requires { ⌜ fault v (now d) ≡ 0 ⌝ }
-    ensures { λ r. ⌜ Entered r (now (d .exit)) (entering (now (d .entry)) name (sizeBy asked) channel date) ⌝ }
+    ensures { λ r. ⌜ Meets r (now (d .exit)) (entering (now (d .entry)) name (sizeBy asked) channel date) ⌝ }
 {
-    let end = d.len();
-    let mut copy = tidied_copy(d, v);
-    let survey = survey_areas(&copy[..end], at_least(asked));
-    if !survey.long {
-        return Answer {
-            number: 11,
-            first: 0,
-            length: 0,
-            date: 0,
-        };
+    let found = survey_areas(d, at_least(asked));
+    let areas = found.areas;
+    if !areas.long {
+        return refused(11);
     }
-    if !survey.eligible {
-        return Answer {
-            number: 12,
-            first: 0,
-            length: 0,
-            date: 0,
-        };
+    if !areas.eligible {
+        return refused(12);
     }
-    let blocks = wanted_of(asked, survey.longest, survey.second);
-    place_file(d, v, &mut copy[..end], blocks as u16, name, channel, date)
+    let blocks = wanted_of(asked, areas.longest, areas.second);
+    place_file(d, v, found.untidy, blocks as u16, name, channel, date)
 }

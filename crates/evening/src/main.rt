@@ -7,6 +7,7 @@ use meaning::Answer;
 use meaning::Name;
 use meaning::Op;
 use meaning::Request;
+use meaning::refused;
 use requests::close;
 use requests::enter;
 use requests::fresh;
@@ -76,12 +77,7 @@ fn no_request() -> Request {
 }
 
 fn no_answer() -> Answer {
-    Answer {
-        number: 0,
-        first: 0,
-        length: 0,
-        date: 0,
-    }
+    refused(0)
 }
 
 // The batch: A is deleted, B becomes E, the file on channel 1 is closed at 7 blocks, that on channel 2 abandoned, and F is not there.

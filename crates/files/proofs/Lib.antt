@@ -1,1 +1,1 @@
-pub mod Determined
+pub mod Tested

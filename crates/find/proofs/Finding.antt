@@ -11,8 +11,9 @@ use Rattle.meaning.specs.Words.{Entry, Row, segment, slotWords, slots, upto, en
 use Rattle.meaning.specs.Words.{rowsIn, segmentRows, rowsOf, rows}
 use Rattle.meaning.specs.Answers.{find}
 use Rattle.walks.specs.Links.{linked}
-use Rattle.segment.specs.Finder.{keyed, foundOf, Inside}
-use Rattle.segment.specs.declared.finder.Key.{Key}
+use Rattle.segment.specs.Finder.{foundOf, Inside}
+use Rattle.meaning.specs.declared.Key.{Key}
+use Rattle.meaning.specs.Keys.{holds}
 use Rattle.segment.specs.declared.finder.Place.{Place}
 use Rattle.segment.specs.declared.finder.Found.{Found}
 use Rattle.segment.specs.declared.finder.Found.the-variants.{At, Nothing}
@@ -39,12 +40,12 @@ find-append P (x ∷ xs) ys = by-test (P (x .entry)) x (find P xs) (find P (xs +
 
 -- what is found with n segments ahead, from s on
 abbrev pub foundFrom : Key → ℕ → List ℕ → ℕ → Found
-foundFrom key n d s = foundOf (find (keyed key) (rowsOf d (chainFrom n d s)))
+foundFrom key n d s = foundOf (find (holds key) (rowsOf d (chainFrom n d s)))
 
 -- what is found in segment s, where its words are g
 abbrev pub foundHere : Key → List ℕ → ℕ → List ℕ → Found
 foundHere key d s g =
-    foundOf (find (keyed key) (rowsIn (slotWords d) s 1 (base s + 5) (getD d (base s + 4) 0) (upto (slots (slotWords d) g))))
+    foundOf (find (holds key) (rowsIn (slotWords d) s 1 (base s + 5) (getD d (base s + 4) 0) (upto (slots (slotWords d) g))))
 
 -- one turn of the walk, where r is what is found in segment s
 pub turn : (key : Key) (n : ℕ) (d : List ℕ) (s : ℕ) (r : Found) → 0 < n → r ≡ foundHere key d s (segment d s)
@@ -53,7 +54,7 @@ unfolding chainFrom rowsOf segmentRows entries
 turn key zero d s r h e = absurd (omega arith)
 turn key (suc n) d s r h e =
     let m : suc n - 1 ≡ n = omega arith in
-    rw (m, e, ← header d s 1 (omega arith), ← header d s 4 (omega arith)) (find-append (keyed key) _ _)
+    rw (m, e, ← header d s 1 (omega arith), ← header d s 4 (omega arith)) (find-append (holds key) _ _)
 
 -- its end
 pub turned : (key : Key) (n : ℕ) (d : List ℕ) (s : ℕ) → n ≤ 0 → foundFrom key n d s ≡ Nothing
@@ -65,7 +66,7 @@ turned key (suc n) d s h = absurd (omega arith)
 pub record Finding (d : List ℕ) (key : Key) (left s : ℕ) : Type 0 where
   pub links : linked left d s ≡ true
   pub few : left ≤ 31
-  pub same : foundFrom key left d s ≡ foundOf (find (keyed key) (rows d))
+  pub same : foundFrom key left d s ≡ foundOf (find (holds key) (rows d))
 
 pub starts : (d : List ℕ) (key : Key) → Chained d → Finding d key (highest d) 1
 unfolding rows chain

@@ -1,15 +1,27 @@
--- What the finder promises: the first row of the directory that is looked for, as a place.
+-- What the finder promises: the first row of the directory that is looked for, as a place; and what requests make of it.
 use Prim.Native.Nat.{ℕ}
 use mathlib.Core.Path.{_≡_}
 use mathlib.Core.List.{List}
 use lib.ListN.{length}
 use Rattle.meaning.specs.Words.{slotWords, rows}
-use Rattle.meaning.specs.Answers.{find}
-use Rattle.segment.specs.Finder.{keyed, foundOf, Inside}
-use Rattle.segment.specs.declared.finder.Key.{Key}
+use Rattle.meaning.specs.declared.Answer.{Answer}
+use Rattle.meaning.specs.Answers.{Outcome, granted, onRow, find, write}
+use Rattle.meaning.specs.Requests.{successWith, emptying}
+use Rattle.segment.specs.Finder.{foundOf, Inside}
+use Rattle.meaning.specs.declared.Key.{Key}
+use Rattle.meaning.specs.Keys.{holds}
 use Rattle.segment.specs.declared.finder.Found.{Found}
+use Rattle.segment.specs.declared.finder.Place.{Place}
 
 -- the answer r for the directory d; and where a place is found, the words of its slot lie in the directory
 pub record FoundEntry (r : Found) (d : List ℕ) (key : Key) : Type 0 where
-  pub is : r ≡ foundOf (find (keyed key) (rows d))
+  pub is : r ≡ foundOf (find (holds key) (rows d))
   pub inside : Inside r (slotWords d) (length d)
+
+-- the answer of a success with the entry at a place
+abbrev pub answerAt : Place → Answer
+answerAt p = granted (p .first) (p .length) (p .date)
+
+-- delete and abandon, once nothing but a missing entry can refuse them
+unfoldable pub emptied : List ℕ → Key → ℕ → Outcome
+emptied d key missing = onRow missing (find (holds key) (rows d)) d λ r. successWith r (write d (emptying r))

@@ -1,7 +1,9 @@
 // The first entry that is looked for, over the whole chain.
+pub mod found;
+
+use meaning::Key;
 use segment::finder;
 use segment::finder::Found;
-use segment::finder::Key;
 ghost use Rattle.chain.specs.Chained.{Chained};
 ghost use Rattle.find.specs.Find.{FoundEntry};
 

@@ -2,23 +2,21 @@
 -- slots from there too, and the rest from word 5 + h·w on. The area stands after k entries of the segment, so after k of the first
 -- half or after k - h of the second. Assumes nothing.
 use Prim.Native.Nat.{ℕ, zero, suc, _+_, _*_, _-_, _/_, _≤_, _<_}
-use mathlib.Core.Path.{_≡_, refl, sym, ap, _∙_}
+use mathlib.Core.Path.{_≡_, sym, ap, _∙_}
 use mathlib.Core.List.{List, [], _∷_, append-nil}
 use native.Mathlib.Omega.{arith}
-use native.Mathlib.Nat.{add-mul, mul-le-mul-right}
+use native.Mathlib.Nat.{add-mul, suc-mul, mul-le-mul-right, div-mul-le-self}
 use lib.ListN.{length, getD, take, drop, set, replicate, length-take, length-drop}
 use lib.Seq.{paste, take-length, drop-drop, length-take-le}
-use lib.Dec.{ltb}
 use borrow.Author.Tests.{lt-ltb, le-ltb}
 use Rattle.meaning.specs.Words.{Entry, blocks, chunks, slots, upto, total, linkOf, firstOf, slotCount}
-use Rattle.meaning.specs.Requests.{render}
 use Rattle.insert.specs.declared.place.Spot.{Spot}
-use Rattle.render.specs.Anew.{gapWords, insertedWords, renderedWords, Inserting}
-use Rattle.render.specs.Halves.{KeptOf}
+use Rattle.render.specs.Anew.{gapWords, insertedWords, renderedWords, Inserting, insertedInto, Insertable}
 use Rattle.insert.specs.Spots.{Slot, Half, wholeSegment, oldSegment, freshSegment}
 use Rattle.render.proofs.Chunks.{first-slots, entries-slots, few-entries, drop-chunks, at-chunks}
-use Rattle.render.proofs.Counting.{slots-room}
-use Rattle.render.proofs.Parts.{Part, part-inserting, part-room, part-is, plain-is, whole-room, half-room}
+use Rattle.segment.proofs.Slots.{word}
+use Rattle.segment.proofs.Ahead.{slots-room}
+use Rattle.render.proofs.Parts.{Part, part-inserting, part-room, part-is, plain-is, half-room}
 
 -- the entries of a segment, and how many
 abbrev entriesIn : List ℕ → ℕ → List Entry
@@ -103,18 +101,32 @@ module _ {g : List ℕ} {new : Entry} {p : Spot} (s : Slot g new p) where
       → Part (drop 5 g) new n (p .before) (p .word - 5) (5 + n * length new - 5)
   whole-part n e = front-part n (5 + n * length new - 5) (omega (arith, e, s .there)) (omega arith) (omega arith)
 
-  pub whole-asks : (n : ℕ) → n ≡ countIn g (length new) → 1 ≤ p .cost → n + p .cost < slotCount (length new)
-      → Inserting (take (5 + n * length new - 5) (drop 5 g)) (p .word - 5) (p .cost) new
-      × (5 + length (insertedWords (p .word - 5) (p .cost) new (take (5 + n * length new - 5) (drop 5 g))) < 512)
-  whole-asks n e h k = (
-    part-inserting (whole-part n e) (p .cost),
-    part-room (whole-part n e) (p .cost) (whole-room n (length new) (p .cost) (s .wide) h k),
-  )
+  area-blocks : blocks (getD (entriesIn g (length new)) (p .before) []) ≡ getD g (p .word + 4) 0
+  area-blocks = ap blocks area-is ∙ word g (5 + p .before * length new) (length new) 4 (omega (arith, s .wide)) ∙ rw (s .place)
+
+  pub whole-asks : (n : ℕ) → n ≡ countIn g (length new) → 1 ≤ p .cost → p .cost ≤ 2 → n + p .cost < slotCount (length new)
+      → Insertable g (5 + n * length new) (p .word) (p .cost) new
+  whole-asks n e h k l =
+      let w : ℕ = length new in
+      let below : suc (p .before) ≤ n = omega (arith, e, s .there) in
+      record {
+        whole = s .full;
+        wide = s .wide;
+        narrow = s .narrow;
+        from = omega (arith, s .place);
+        slot = omega (arith, s .place, suc-mul (p .before) w, mul-le-mul-right w below);
+        costs = h;
+        cheap = k;
+        room =
+            omega
+            (arith, add-mul n (p .cost) w, suc-mul (n + p .cost) w, mul-le-mul-right w l, div-mul-le-self 507 w, s .wide);
+        fits = omega (arith, area-blocks, s .fits);
+      }
 
   pub whole-is : (n : ℕ) (o : List ℕ) → n ≡ countIn g (length new)
-      → o ≡ renderedWords (take 5 g) (insertedWords (p .word - 5) (p .cost) new (take (5 + n * length new - 5) (drop 5 g)))
+      → o ≡ insertedInto g (5 + n * length new) (p .word) (p .cost) new
       → o ≡ wholeSegment g new p
-  unfolding wholeSegment
+  unfolding wholeSegment insertedInto
   whole-is n o e q =
       let c : chunks n (length new) (drop 5 g) ≡ entriesIn g (length new) =
       ap (λ (i : ℕ). chunks i (length new) (drop 5 g)) e ∙ sym are-slots in

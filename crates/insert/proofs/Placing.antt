@@ -2,26 +2,31 @@
 -- of the new entry begins with the entry's words; so what is promised of a segment's words is what the meaning says of the segment.
 -- A segment copied back leaves the words before and after it. Assumes nothing.
 use Prim.Native.Nat.{ℕ, _+_, _*_, _-_, _/_, _≤_, _<_}
-use mathlib.Core.Path.{_≡_, refl, sym, ap, _∙_}
-use mathlib.Core.Bool.{Bool, true, false, cond, _||_}
+use mathlib.Core.Path.{_≡_, sym, ap, _∙_}
+use mathlib.Core.Bool.{true, false}
 use mathlib.Core.List.{List, [], _∷_, _++_}
 use native.Mathlib.Omega.{arith}
 use lib.ListN.{length, getD, take, drop, set, replicate, length-append, length-take, length-drop, length-replicate}
 use lib.Seq.{paste, take-length, length-take-le, getD-take}
 use lib.Dec.{leb, ltb}
+use borrow.Rule.Slice.PartMut.{putMid}
 use borrow.Author.Tests.{le-leb, lt-leb, ltb-true}
-use Rattle.meaning.specs.Words.{Entry, segment, slotWords, slotCount, capacity, slots, upto, entries, blocks, highest, segments, firstOf, total}
+use Rattle.meaning.specs.Kinds.{tentativeStatus, endStatus}
+use Rattle.meaning.specs.Words.{Entry, segment, slotWords, slotCount, capacity, slots, upto, entries, blocks, highest, segments}
 use Rattle.meaning.specs.Requests.{entryOf, flat, render}
-use Rattle.meaning.specs.Enter.{withSegment, headerOf, kept, unsplit, split, entered, hasRoom, Area}
+use Rattle.meaning.specs.Enter.{withSegment, headerOf, kept, unsplit, split, entered, hasRoom}
 use Rattle.chain.specs.Chained.{Chained}
+use Rattle.chain.proofs.Links.{part-is}
+use Rattle.chain.proofs.Replaced.{partOf, part-put}
 use Rattle.render.specs.declared.Tentative.{Tentative}
 use Rattle.insert.specs.declared.place.Spot.{Spot}
 use Rattle.render.specs.Anew.{newEntry}
-use Rattle.render.specs.Halves.{Counted, KeptOf}
+use Rattle.segment.specs.Count.{Counted}
+use Rattle.render.specs.Halves.{KeptOf}
 use Rattle.insert.specs.Spots.{areaOf, Chosen, Splittable, Enterable, Slot, Half, wholeSegment, oldSegment, freshSegment}
 use Rattle.copying.proofs.Writes.{pasted}
 use Rattle.render.proofs.Chunks.{few-entries}
-use Rattle.render.proofs.Counting.{slots-room}
+use Rattle.segment.proofs.Ahead.{few-slots, slots-room}
 use Rattle.render.proofs.Anew.{entry-take, entry-length}
 
 -- a segment has 512 words
@@ -35,7 +40,7 @@ cut-length n h es z k = length-take-le n (h ++ flat es z) (omega (arith, length-
 
 pub render-length : (h : List ℕ) (es : List Entry) → length (render h es) ≡ 512
 unfolding render
-render-length h es = cut-length 512 h es (2048 ∷ replicate 512 0) (omega (arith, length-replicate {A = ℕ} 512 0))
+render-length h es = cut-length 512 h es (endStatus ∷ replicate 512 0) (omega (arith, length-replicate {A = ℕ} 512 0))
 
 -- a segment copied back
 pub put-segment : (d : List ℕ) (s : ℕ) (o : List ℕ) → 1 ≤ s → length o ≡ 512
@@ -51,15 +56,6 @@ put-next d h o e =
     ap (λ (i : ℕ). paste d (512 * i) o (length o)) k ∙ put-segment d (h + 1) o (omega arith) e
 
 -- the part of the directory that is segment s
-abbrev pub partOf : List ℕ → ℕ → List ℕ
-partOf d s = take (512 * (s - 1) + 512 - 512 * (s - 1)) (drop (512 * (s - 1)) d)
-
-pub part-is : (d : List ℕ) (s : ℕ) → partOf d s ≡ segment d s
-unfolding segment
-part-is d s =
-    let e : 512 * (s - 1) + 512 - 512 * (s - 1) ≡ 512 = omega arith in
-    ap (λ (i : ℕ). take i (drop (512 * (s - 1)) d)) e
-
 pub part-full : (d : List ℕ) (s : ℕ) → 1 ≤ s → 512 * s ≤ length d → length (partOf d s) ≡ 512
 part-full d s h k = simp (length-take, length-drop) (omega arith)
 
@@ -72,13 +68,13 @@ module _ {t : List ℕ} {w : ℕ} {a : List ℕ} (e : Tentative) (c : Chained t)
   new-is : take w a ≡ newEntry (slotWords t) e
   new-is =
       rw (i, q)
-      (entry-take (slotWords t) 256 (e .first) (e .second) (e .extension) (e .length) (e .channel) (e .date) (omega arith)
+      (entry-take (slotWords t) tentativeStatus (e .name) (e .length) (e .channel) (e .date) (omega arith)
       (omega (arith, c .extra)))
 
   pub new-length : length (take w a) ≡ w
   new-length =
       ap length new-is
-      ∙ entry-length (slotWords t) 256 (e .first) (e .second) (e .extension) (e .length) (e .channel) (e .date) (omega arith)
+      ∙ entry-length (slotWords t) tentativeStatus (e .name) (e .length) (e .channel) (e .date) (omega arith)
       ∙ sym i
 
   new-blocks : blocks (take w a) ≡ e .length
@@ -109,15 +105,12 @@ module _ {t : List ℕ} {w : ℕ} {a : List ℕ} (e : Tentative) (c : Chained t)
     unfolding capacity
     room-of n k = rw (new-length, i) (omega (arith, h .costs))
 
-    pub unsplit-is : (o x : List ℕ) → o ≡ wholeSegment (partOf t (p .seg)) (take w a) p
-        → x ≡ paste t (512 * (p .seg - 1)) o (length o)
-        → x ≡ unsplit t (newEntry (slotWords t) e) (e .length) (areaOf p)
+    pub unsplit-is : (o : List ℕ) → o ≡ wholeSegment (partOf t (p .seg)) (take w a) p
+        → putMid (512 * (p .seg - 1)) (512 * (p .seg - 1) + 512 - 512 * (p .seg - 1)) t o
+        ≡ unsplit t (newEntry (slotWords t) e) (e .length) (areaOf p)
     unfolding wholeSegment unsplit headerOf
-    unsplit-is o x k f =
-        let n : length o ≡ 512 = ap length k ∙ render-length _ _ in
-        f
-        ∙ put-segment t (p .seg) o (h .low) n
-        ∙ rw (k, new-blocks, same-entries, new-length, part-is t (p .seg), new-is, i)
+    unsplit-is o k =
+        part-put t o (p .seg) (h .low) ∙ rw (k, new-blocks, same-entries, new-length, part-is t (p .seg), new-is, i)
 
     pub counted-of : (n : ℕ) → n ≡ length (entries t (p .seg)) → Counted n w (partOf t (p .seg))
     unfolding slots
@@ -125,7 +118,7 @@ module _ {t : List ℕ} {w : ℕ} {a : List ℕ} (e : Tentative) (c : Chained t)
         let part : List ℕ = partOf t (p .seg) in
         let m : n ≡ length (upto (slots w part)) = rw (part-entries t (p .seg) w i) k in
         let f : n ≤ slotCount w = omega (arith, m, few-entries (507 / w) w (drop 5 part)) in
-        record { is = m; few = f; room = slots-room n w f }
+        record { is = m; few = f; small = omega (arith, few-slots w); room = slots-room n w f }
 
     pub half-of : (n : ℕ) → KeptOf n (upto (slots w (partOf t (p .seg)))) → Splittable t (p .seg)
         → Half (partOf t (p .seg)) (take w a) p n
@@ -212,9 +205,3 @@ module _ {t : List ℕ} {p : Spot} {b w n : ℕ} (r : Enterable t p b) (i : w �
   pub entered-split : (x : List ℕ) (new : Entry) → 507 / w ≤ n + p .cost → x ≡ split t new b (areaOf p) → x ≡ entered t new b (areaOf p)
   unfolding entered
   entered-split x new h e = rw (lacks h) e
-
--- for callers: what the area that is chosen says beside a spot does not count
-pub entered-area : (t : List ℕ) (new : Entry) (n : ℕ) (a : Area) (p : Spot) → p .seg ≡ a .seg → p .before ≡ a .before → p .cost ≡ a .cost
-    → entered t new n (areaOf p) ≡ entered t new n a
-unfolding entered unsplit split
-entered-area t new n a p e f g = rw (e, f, g)

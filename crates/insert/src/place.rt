@@ -1,8 +1,9 @@
-// The new entry placed in the area that was chosen: inserted into its segment, or into a half of it after a split. The directory is
-// a tidied copy that the caller throws away if it refuses, so it is written in place.
+// The new entry placed in the area that was chosen: inserted into its segment, in place, or into a half of it after a split, where both
+// halves are made anew.
 use copying::copy_words;
 use render::Tentative;
 use render::measure;
+use segment::count;
 ghost use mathlib.Core.Path.{_≡_};
 ghost use Prim.Native.Nat.{_+_, _≤_, _<_};
 ghost use lib.ListN.{length};
@@ -28,32 +29,28 @@ fn slot_words(directory: &[u16]) -> usize
     7 + (directory[3] / 2) as usize
 }
 
-// The segment of the area, which has this many entries and room for more, with the new entry.
-fn whole_segment(segment: &[u16], count: usize, spot: Spot, new: &[u16]) -> [u16; 512]
-    requires { ⌜ Slot (now segment) (now new) spot × (count ≡ length (upto (slots (length (now new)) (now segment)))) × (1 ≤ spot .cost) × (count + spot .cost < slotCount (length (now new))) ⌝ }
-    ensures { λ r. ⌜ r ≡ wholeSegment (now (segment .entry)) (now (new .entry)) spot ⌝ }
+// The new entry inserted into the words of its segment, which has this many entries and room for more.
+fn insert_whole(segment: &mut [u16], count: usize, spot: Spot, new: &[u16])
+    requires { ⌜ Slot (now segment) (now new) spot × (count ≡ length (upto (slots (length (now new)) (now segment)))) × (1 ≤ spot .cost)
+        × (spot .cost ≤ 2) × (count + spot .cost < slotCount (length (now new))) ⌝ }
+    ensures { λ _. ⌜ now (segment .exit) ≡ wholeSegment (now (segment .entry)) (now (new .entry)) spot ⌝ }
 {
     let stop = 5 + count * new.len();
-    render::inserted_segment(
-        &segment[..5],
-        &segment[5..stop],
-        spot.word - 5,
-        spot.cost,
-        new,
-    )
+    render::insert_words(segment, stop, spot.word, spot.cost, new);
 }
 
 // The new entry inserted into the segment of the area, which has this many entries and room for more.
 pub fn insert(directory: &mut [u16], spot: Spot, count: usize, new: Tentative)
-    requires { ⌜ Chained (now directory) × Chosen (now directory) spot (new .length) × (count ≡ length (entries (now directory) (spot .seg))) × (count + spot .cost ≤ capacity (now directory)) ⌝ }
-    ensures { λ _. ⌜ now (directory .exit) ≡ unsplit (now (directory .entry)) (newEntry (slotWords (now (directory .entry))) new) (new .length) (areaOf spot) ⌝ }
+    requires { ⌜ Chained (now directory) × Chosen (now directory) spot (new .length)
+        × (count ≡ length (entries (now directory) (spot .seg))) × (count + spot .cost ≤ capacity (now directory)) ⌝ }
+    ensures { λ _. ⌜ now (directory .exit) ≡ unsplit (now (directory .entry)) (newEntry (slotWords (now (directory .entry))) new)
+        (new .length) (areaOf spot) ⌝ }
 {
     let width = slot_words(directory);
     let entry = render::entry_words(new);
     let base = 512 * (spot.seg - 1);
     let end = base + 512;
-    let segment = whole_segment(&directory[base..end], count, spot, &entry[..width]);
-    copy_words(&segment, directory, base);
+    insert_whole(&mut directory[base..end], count, spot, &entry[..width]);
 }
 
 // The old segment of a split: the entries that are kept, linked to the next segment. The new entry goes here if its area is kept.
@@ -104,8 +101,10 @@ fn fresh_segment(
 
 // The segment of the area split in two, and the new entry inserted into the half that has the area.
 pub fn split_and_insert(directory: &mut [u16], spot: Spot, count: usize, new: Tentative)
-    requires { ⌜ Chained (now directory) × Chosen (now directory) spot (new .length) × (count ≡ length (entries (now directory) (spot .seg))) × Splittable (now directory) (spot .seg) ⌝ }
-    ensures { λ _. ⌜ now (directory .exit) ≡ split (now (directory .entry)) (newEntry (slotWords (now (directory .entry))) new) (new .length) (areaOf spot) ⌝ }
+    requires { ⌜ Chained (now directory) × Chosen (now directory) spot (new .length)
+        × (count ≡ length (entries (now directory) (spot .seg))) × Splittable (now directory) (spot .seg) ⌝ }
+    ensures { λ _. ⌜ now (directory .exit) ≡ split (now (directory .entry)) (newEntry (slotWords (now (directory .entry))) new)
+        (new .length) (areaOf spot) ⌝ }
 {
     let width = slot_words(directory);
     let entry = render::entry_words(new);
@@ -132,12 +131,13 @@ pub fn split_and_insert(directory: &mut [u16], spot: Spot, count: usize, new: Te
 // Split only if the chosen segment lacks the slots. The marker takes one of them.
 pub fn enter_area(directory: &mut [u16], spot: Spot, new: Tentative)
     requires { ⌜ Enterable (now directory) spot (new .length) ⌝ }
-    ensures { λ _. ⌜ now (directory .exit) ≡ entered (now (directory .entry)) (newEntry (slotWords (now (directory .entry))) new) (new .length) (areaOf spot) ⌝ }
+    ensures { λ _. ⌜ now (directory .exit) ≡ entered (now (directory .entry)) (newEntry (slotWords (now (directory .entry))) new)
+        (new .length) (areaOf spot) ⌝ }
 {
     let width = slot_words(directory);
     let base = 512 * (spot.seg - 1);
     let end = base + 512;
-    let count = measure::count_entries(&directory[base..end], width);
+    let count = count::count_entries(&directory[base..end], width);
     if count + spot.cost < 507 / width {
         insert(directory, spot, count, new);
         return;

@@ -1,7 +1,10 @@
--- What holds of all elements of a list, or of each two of them: it follows along, in two lists joined, and in another order of
--- the list.
+-- What holds of all elements of a list, or of each two of them: it follows along, in two lists joined, at each place, and in
+-- another order of the list.
+use Prim.Native.Nat.{ℕ, zero, suc, _<_}
 use mathlib.Core.Path.{subst}
 use mathlib.Core.List.{List, [], _∷_, _++_, List·Permᴰ, List·Permᴰ·nil, List·Permᴰ·cons, List·Permᴰ·swap, List·Permᴰ·trans}
+use native.Mathlib.Nat.{le-of-suc-le-suc, not-suc-le-zero}
+use lib.ListN.{length, getD}
 use Rattle.laws.specs.Order.{All, Pairwise}
 
 module _ {A : Type 0} where
@@ -24,6 +27,23 @@ module _ {A : Type 0} where
   pub all-right : (P : A → Type 0) (xs ys : List A) → All P (xs ++ ys) → All P ys
   all-right P [] ys a = a
   all-right P (x ∷ xs) ys a = all-right P xs ys (a .1)
+
+  pub all-at : (P : A → Type 0) (xs : List A) → All P xs → (i : ℕ) → i < length xs → (z : A) → P (getD xs i z)
+  all-at P [] a i l z = absurd (not-suc-le-zero l)
+  all-at P (x ∷ xs) a zero l z = a .0
+  all-at P (x ∷ xs) a (suc i) l z = all-at P xs (a .1) i (le-of-suc-le-suc l) z
+
+  pub pairwise-append : (R : A → A → Type 0) (xs ys : List A) → Pairwise R xs → Pairwise R ys → All (λ (x : A). All (R x) ys) xs
+      → Pairwise R (xs ++ ys)
+  pairwise-append R [] ys p q a = q
+  pairwise-append R (x ∷ xs) ys p q a = (all-append (R x) xs ys (p .0) (a .0), pairwise-append R xs ys (p .1) q (a .1))
+
+  pub pairwise-at : (R : A → A → Type 0) (xs : List A) → Pairwise R xs → (i j : ℕ) → i < j → j < length xs → (z : A)
+      → R (getD xs i z) (getD xs j z)
+  pairwise-at R [] p i j l m z = absurd (not-suc-le-zero m)
+  pairwise-at R (x ∷ xs) p i zero l m z = absurd (not-suc-le-zero l)
+  pairwise-at R (x ∷ xs) p zero (suc j) l m z = all-at (R x) xs (p .0) j (le-of-suc-le-suc m) z
+  pairwise-at R (x ∷ xs) p (suc i) (suc j) l m z = pairwise-at R xs (p .1) i j (le-of-suc-le-suc l) (le-of-suc-le-suc m) z
 
   pub all-perm : (P : A → Type 0) {xs ys : List A} → List·Permᴰ xs ys → All P xs → All P ys
   all-perm P List·Permᴰ·nil a = tt

@@ -1,6 +1,6 @@
--- A directory in which one segment is written anew, or split in two. Rule 3 brings the chain to that segment once; so the way before it and
--- the way after it are as they were, and with the new way between them they are the way of the whole. The directory is sound if no key comes
--- twice; and its living entries are those before but for the ones of the segment.
+-- A directory in which one segment is written anew, or split in two. Rule 3 brings the chain to that segment once; so the way before it
+-- and the way after it are as they were, and with the new way between them they are the way of the whole. The directory is sound if no
+-- key comes twice; and its living entries are those before but for the ones of the segment.
 use Prim.Native.Nat.{ℕ, suc, _+_, _≤_}
 use mathlib.Core.Path.{_≡_, refl, sym, ap, _∙_, subst}
 use mathlib.Core.Logic.{_≢_}
@@ -16,15 +16,16 @@ use Rattle.meaning.specs.Words.{entries, total, chain, allEntries}
 use Rattle.meaning.specs.Sound.{bad1, bad2, bad3, times}
 use Rattle.walks.proofs.Lists.{chain-length, chain-at}
 use Rattle.walks.proofs.Linked.{bad3-walk}
-use Rattle.laws.specs.Order.{Key}
+use Rattle.meaning.specs.declared.Key.{Key}
+use Rattle.meaning.specs.Keys.{holds, once}
 use Rattle.laws.specs.Sound.{Rule2, VisitedOnce}
 use Rattle.laws.proofs.Rule3.{reached-once, rule3-holds}
 use Rattle.laws.proofs.Rule5.{rule2-holds, rule2-tested}
-use Rattle.laws.proofs.Keys.{holds}
 use Rattle.laws.proofs.Soundness.{Sound}
 use Rattle.laws.proofs.Move.{head-word}
 use Rattle.laws.proofs.Living.{Live, living, livingOf, living-append, counted, count-living}
-use Rattle.laws.proofs.Way.{Shape, shapeOf, raised, spread, entriesIn, Stop, Way, way-join, Cut, way-cut, way-blocks, Like, Along, way-along}
+use Rattle.laws.proofs.Way.{Shape, shapeOf, raised, spread, entriesIn, Stop, Way, way-join, Cut, way-cut, way-blocks, Like, Along}
+use Rattle.laws.proofs.Way.{way-along}
 use Rattle.laws.proofs.Way.{all-spread, sound-way, way-chain, way-sound}
 
 -- a segment that is in use is visited once
@@ -103,7 +104,7 @@ pub record Anew (v : ℕ) (d D : List ℕ) (s : ℕ) (ms : List ℕ) : Type 0 wh
   pub after : List Live
   pub living-was : livingOf d ≡ before ++ (living (firstOf (segment d s)) (entries d s) ++ after)
   pub living-is : livingOf D ≡ before ++ (living (firstOf (segment d s)) (spread (slotWords d) D ms) ++ after)
-  pub sound : ((k : Key) → counted (holds k) (livingOf D) ≤ 1) → Sound v D
+  pub sound : ((k : Key) → once k ≡ true → counted (holds k) (livingOf D) ≤ 1) → Sound v D
 
 spread-append : (w : ℕ) (d xs ys : List ℕ) → spread w d (xs ++ ys) ≡ spread w d xs ++ spread w d ys
 spread-append w d [] ys = refl

@@ -1,5 +1,6 @@
--- The areas of a directory. Each stands in a segment in use, with the entries before it and after it: they give its place, its first block and
--- its cost, and it ends within the volume. Every empty entry is such an area. What the choice finds is one of them, long enough and eligible.
+-- The areas of a directory. Each stands in a segment in use, with the entries before it and after it: they give its place, its first
+-- block and its cost, and it ends within the volume. Every empty entry is such an area. What the choice finds is one of them, long
+-- enough and eligible.
 use Prim.Native.Nat.{ℕ, _+_, _≤_}
 use mathlib.Core.Path.{_≡_, refl, sym, ap, subst}
 use mathlib.Core.Bool.{Bool, true, false, cond, _&&_, or-true}
@@ -18,7 +19,8 @@ use Rattle.meaning.specs.Enter.{isArea, Area, costAfter, hasRoom, areasIn, area
 use Rattle.laws.specs.Order.{All}
 use Rattle.laws.proofs.Alls.{all-map, all-append}
 use Rattle.laws.proofs.Soundness.{Sound, total-append}
-use Rattle.laws.proofs.Fine.{flag, empty-kind}
+use Rattle.laws.proofs.Fine.{flag}
+use Rattle.walks.proofs.Told.{empty-kind}
 use Rattle.laws.proofs.Way.{Used, chain-used}
 use Rattle.laws.proofs.Anew.{ends-within}
 use Rattle.laws.proofs.TidiedSound.{tidied-alike}
@@ -60,14 +62,14 @@ module _ (room : ℕ → Bool) (s : ℕ) where
     },
   )
 
-  stand-in : (k b : ℕ) (p : Bool) (es : List Entry) → All (StandsIn k b p es) (areasIn room s k b p es)
+  stands-in : (k b : ℕ) (p : Bool) (es : List Entry) → All (StandsIn k b p es) (areasIn room s k b p es)
   unfolding areasIn total
-  stand-in k b p [] = tt
-  stand-in k b p (e ∷ es) =
+  stands-in k b p [] = tt
+  stands-in k b p (e ∷ es) =
       go (isArea e) refl
       (all-map (StandsIn (k + 1) (b + blocks e) (isTentative (kind e)) es) (StandsIn k b p (e ∷ es)) (later k b p e es)
       (areasIn room s (k + 1) (b + blocks e) (isTentative (kind e)) es)
-      (stand-in (k + 1) (b + blocks e) (isTentative (kind e)) es))
+      (stands-in (k + 1) (b + blocks e) (isTentative (kind e)) es))
     where
       r : List Area
       r = areasIn room s (k + 1) (b + blocks e) (isTentative (kind e)) es
@@ -130,7 +132,7 @@ areas-stood t (s ∷ ss) u =
     all-append (Stood t) (areasIn (RoomIn t s) s 0 (firstOf (segment t s)) false (entries t s)) (areas t ss)
     (all-map (StandsIn (RoomIn t s) s 0 (firstOf (segment t s)) false (entries t s)) (Stood t) here
     (areasIn (RoomIn t s) s 0 (firstOf (segment t s)) false (entries t s))
-    (stand-in (RoomIn t s) s 0 (firstOf (segment t s)) false (entries t s)))
+    (stands-in (RoomIn t s) s 0 (firstOf (segment t s)) false (entries t s)))
     (areas-stood t ss (u .1))
   where
     here : (a : Area) → StandsIn (RoomIn t s) s 0 (firstOf (segment t s)) false (entries t s) a → Stood t a

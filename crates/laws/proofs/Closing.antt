@@ -15,14 +15,18 @@ use borrow.Author.Tests.{eq-eqb, ne-eqb}
 use Rattle.bools.proofs.Bools.{never}
 use Rattle.meaning.specs.declared.Kind.{Kind}
 use Rattle.meaning.specs.declared.Kind.the-variants.{Tentative, Empty, Permanent}
-use Rattle.meaning.specs.Words.{slotWords, Entry, statusWord, lengthWord, channelWord, kind, blocks, dateOf, Row, rows}
+use Rattle.meaning.specs.Kinds.{emptyStatus, permanentStatus}
+use Rattle.meaning.specs.Words.{slotWords, Entry, statusWord, lengthWord, channelWord, kind, nameOf, blocks, dateOf, Row, rows}
 use Rattle.meaning.specs.Answers.{Write, put, write}
 use Rattle.meaning.specs.Requests.{emptying, replacing}
-use Rattle.laws.specs.Order.{Key, file, channel, fileOfRow, OnOpen, All}
+use Rattle.meaning.specs.declared.Key.{Key}
+use Rattle.meaning.specs.declared.Key.the-variants.{File, Open}
+use Rattle.meaning.specs.Keys.{holds, once}
+use Rattle.laws.specs.Order.{OnOpen, All}
 use Rattle.laws.proofs.Alls.{all-both}
 use Rattle.laws.proofs.Grid.{entryAt, word-at, not-first}
 use Rattle.laws.proofs.Writes.{Fit, edit, To, edit-to, edit-away, edit-append, at-write}
-use Rattle.laws.proofs.Keys.{holds, IsFile, is-file, file-holds, is-open, empty-holds, other-key}
+use Rattle.laws.proofs.Keys.{once-open, file≢open, IsFile, is-file, file-holds, is-open, empty-holds, other-key}
 use Rattle.laws.proofs.Touch.{Touch, keep, area, gone, made}
 use Rattle.laws.proofs.Rows.{Slot, Stand, Only}
 use Rattle.laws.proofs.Keeps.{After, nothing}
@@ -30,9 +34,9 @@ use Rattle.laws.proofs.Entries.{slot-seven, cleared, Closed, closed, Gr
 use Rattle.laws.proofs.Good.{Owns, mine, after, Two, Made, made-source, good, after-writes}
 
 -- the writes of a close of the row r at final length n, where x was the length of the next entry and o is the file replaced
-abbrev pub closes : Row → ℕ → ℕ → ℕ → Option Row → List Write
-closes r w n x o =
-    put (r .at) statusWord 1024
+abbrev pub closeWrites : Row → ℕ → ℕ → ℕ → Option Row → List Write
+closeWrites r w n x o =
+    put (r .at) statusWord permanentStatus
     ∷ put (r .at) lengthWord n
     ∷ put (r .at) channelWord 0
     ∷ put (r .at + w) lengthWord (x + (blocks (r .entry) - n))
@@ -48,13 +52,11 @@ tentative≢permanent h = let z : _≡_ {A = ℕ} 0 1 = cc in omega arith
 empty≢permanent : Empty ≡ Permanent → ⊥
 empty≢permanent h = let z : _≡_ {A = ℕ} 0 1 = cc in omega arith
 
-channel≢file : (y a b c : ℕ) → channel y ≡ file a b c → ⊥
-channel≢file y a b c h = let z : _≡_ {A = ℕ} 0 1 = cc in omega arith
-
-module _ (d : List ℕ) (st : All (Stand d) (rows d)) (r : Row) (s : Stand d r) (y : ℕ) (h : holds (channel y) (r .entry) ≡ true)
-    (only : All (Only (holds (channel y)) (r .at)) (rows d)) (n : ℕ) (least : n ≤ blocks (r .entry)) (o : Option Row)
-    (is-old : (x : Row) → o ≡ some x → Stand d x × (holds (fileOfRow r) (x .entry) ≡ true))
-    (one-old : All (λ (x : Row). holds (fileOfRow r) (x .entry) ≡ true → Replaced o x) (rows d)) where
+module _ (d : List ℕ) (st : All (Stand d) (rows d)) (r : Row) (s : Stand d r) (y : ℕ) (h : holds (Open y) (r .entry) ≡ true)
+    (only : All (Only (holds (Open y)) (r .at)) (rows d)) (n : ℕ) (least : n ≤ blocks (r .entry)) (o : Option Row)
+    (is-old : (x : Row) → o ≡ some x → Stand d x × (holds (File (nameOf (r .entry))) (x .entry) ≡ true))
+    (one-old : once (File (nameOf (r .entry))) ≡ true
+    → All (λ (x : Row). holds (File (nameOf (r .entry))) (x .entry) ≡ true → Replaced o x) (rows d)) where
   abbrev w : ℕ
   w = slotWords d
 
@@ -62,7 +64,11 @@ module _ (d : List ℕ) (st : All (Stand d) (rows d)) (r : Row) (s : Stand d r) 
   f p = entryAt d (slotWords d) p
 
   abbrev C : Key → Type 0
-  C = Two (channel y) (fileOfRow r)
+  C = Two (Open y) (File (nameOf (r .entry)))
+
+  -- the entry afterwards
+  abbrev shut : Entry → Entry
+  shut e = set (set (set e statusWord permanentStatus) lengthWord n) channelWord 0
 
   abbrev q : ℕ
   q = r .at + slotWords d
@@ -71,23 +77,23 @@ module _ (d : List ℕ) (st : All (Stand d) (rows d)) (r : Row) (s : Stand d r) 
   X = getD d (r .at + slotWords d + lengthWord) 0 + (blocks (r .entry) - n)
 
   abbrev ws : List Write
-  ws = closes r (slotWords d) n (getD d (r .at + slotWords d + lengthWord) 0) o
+  ws = closeWrites r (slotWords d) n (getD d (r .at + slotWords d + lengthWord) 0) o
 
-  key-at : holds (channel y) (f (r .at)) ≡ true
+  key-at : holds (Open y) (f (r .at)) ≡ true
   key-at = rw (s .is) at h
 
   next : Slot d q × (kind (f q) ≡ Empty)
-  next = s .next (is-open y (r .entry) h .kept)
+  next = s .next (is-open y (r .entry) h .tentative)
 
-  old-key : (x : Row) → o ≡ some x → holds (fileOfRow r) (f (x .at)) ≡ true
+  old-key : (x : Row) → o ≡ some x → holds (File (nameOf (r .entry))) (f (x .at)) ≡ true
   old-key x e = rw (is-old x e .0 .is) at (is-old x e .1)
 
   -- what stands at a place afterwards
   data Spot (p : ℕ) (e : Entry) : Type 0 where
-    here : r .at ≡ p → e ≡ set (set (set (f p) 0 1024) 4 n) 5 0 → Spot p e
-    beyond : q ≡ p → e ≡ set (f p) 4 X → Spot p e
-    old : (x : Row) → o ≡ some x → x .at ≡ p → (r .at ≡ p → ⊥) → (q ≡ p → ⊥) → e ≡ set (f p) 0 512 → Spot p e
-    rest : (r .at ≡ p → ⊥) → (q ≡ p → ⊥) → ((x : Row) → o ≡ some x → x .at ≡ p → ⊥) → e ≡ f p → Spot p e
+    here : r .at ≡ p → e ≡ shut (f p) → Spot p e
+    beyond : q ≡ p → e ≡ set (f p) lengthWord X → Spot p e
+    old : (x : Row) → o ≡ some x → x .at ≡ p → (r .at ≡ p → ⊥) → (q ≡ p → ⊥) → e ≡ set (f p) statusWord emptyStatus → Spot p e
+    elsewhere : (r .at ≡ p → ⊥) → (q ≡ p → ⊥) → ((x : Row) → o ≡ some x → x .at ≡ p → ⊥) → e ≡ f p → Spot p e
 
   -- the file replaced is permanent
   old-away : (p : ℕ) (e : Entry) (k : Kind) → kind (f p) ≡ k → (k ≡ Permanent → ⊥) → edit p e (replacing o) ≡ e
@@ -98,11 +104,11 @@ module _ (d : List ℕ) (st : All (Stand d) (rows d)) (r : Row) (s : Stand d r) 
       go none i = refl
       go (some x) i =
           edit-away p (x .at) e (emptying x) (refl, tt)
-          (λ j. ne (sym g ∙ (rw (← j) (is-file _ _ _ (f (x .at)) (old-key x i) .kept))))
+          (λ j. ne (sym g ∙ (rw (← j) (is-file _ (f (x .at)) (old-key x i) .permanent))))
 
   -- the writes to the entry itself, to the next, and to the file replaced
   three : List Write
-  three = put (r .at) statusWord 1024 ∷ put (r .at) lengthWord n ∷ put (r .at) channelWord 0 ∷ []
+  three = put (r .at) statusWord permanentStatus ∷ put (r .at) lengthWord n ∷ put (r .at) channelWord 0 ∷ []
 
   one : List Write
   one = put q lengthWord X ∷ []
@@ -124,13 +130,13 @@ module _ (d : List ℕ) (st : All (Stand d) (rows d)) (r : Row) (s : Stand d r) 
   spot p = go (ℕ-discrete (r .at) p) (ℕ-discrete q p)
     where
       tail : (r .at ≡ p → ⊥) → (q ≡ p → ⊥) → (u : Option Row) → o ≡ u → Spot p (edit p (f p) (replacing u))
-      tail a b none i = rest a b (λ x j. absurd (Option·none-ne-some x (sym i ∙ j))) refl
+      tail a b none i = elsewhere a b (λ x j. absurd (Option·none-ne-some x (sym i ∙ j))) refl
       tail a b (some x) i = go′ (ℕ-discrete (x .at) p)
         where
           go′ : Dec (x .at ≡ p) → Spot p (edit p (f p) (emptying x))
           go′ (yes z) = old x i z a b (edit-to p (f p) (emptying x) (z, tt))
           go′ (no z) =
-              rest a b (λ x′ j g. z (let u : x ≡ x′ = cc in ap (λ (t : Row). t .at) u ∙ g))
+              elsewhere a b (λ x′ j g. z (let u : x ≡ x′ = cc in ap (λ (t : Row). t .at) u ∙ g))
               (edit-away p (x .at) (f p) (emptying x) (refl, tt) z)
 
       go : Dec (r .at ≡ p) → Dec (q ≡ p) → Spot p (edit p (f p) ws)
@@ -140,7 +146,7 @@ module _ (d : List ℕ) (st : All (Stand d) (rows d)) (r : Row) (s : Stand d r) 
           (in-turn p (f p)
           ∙ ap (λ (e : Entry). edit p (edit p e one) (replacing o)) (edit-to p (f p) three (a, (a, (a, tt))))
           ∙ ap (λ (e : Entry). edit p e (replacing o)) (edit-away p q _ one to-one b)
-          ∙ old-away p _ Tentative (rw (← a) (is-open y (f (r .at)) key-at .kept)) tentative≢permanent)
+          ∙ old-away p _ Tentative (rw (← a) (is-open y (f (r .at)) key-at .tentative)) tentative≢permanent)
       go (no a) (yes b) =
           beyond b
           (in-turn p (f p)
@@ -159,45 +165,45 @@ module _ (d : List ℕ) (st : All (Stand d) (rows d)) (r : Row) (s : Stand d r) 
   abbrev δ : ℕ → ℕ
   δ p = cond (eqb (r .at + slotWords d) p) (blocks (r .entry) - n) 0
 
-  still : (p : ℕ) → (q ≡ p → ⊥) → δ p ≡ 0
-  still p b = rw (ne-eqb q p b)
+  unmoved : (p : ℕ) → (q ≡ p → ⊥) → δ p ≡ 0
+  unmoved p b = rw (ne-eqb q p b)
 
-  closed-at : Closed n (f (r .at)) (set (set (set (f (r .at)) 0 1024) 4 n) 5 0)
+  closed-at : Closed n (f (r .at)) (shut (f (r .at)))
   closed-at = closed (f (r .at)) n (slot-seven d (r .at) (s .slot))
 
-  new-file : IsFile (getD (r .entry) 1 0) (getD (r .entry) 2 0) (getD (r .entry) 3 0) (set (set (set (f (r .at)) 0 1024) 4 n) 5 0)
+  new-file : IsFile (nameOf (r .entry)) (shut (f (r .at)))
   new-file = rw (s .is) (closed-at .file)
 
-  new-key : holds (fileOfRow r) (set (set (set (f (r .at)) 0 1024) 4 n) 5 0) ≡ true
-  new-key = file-holds _ _ _ _ new-file
+  new-key : holds (File (nameOf (r .entry))) (shut (f (r .at))) ≡ true
+  new-key = file-holds _ _ new-file
 
-  grown-at : Grown X (f q) (set (f q) 4 X)
+  grown-at : Grown X (f q) (set (f q) lengthWord X)
   grown-at = grown (f q) X (slot-seven d q (next .0))
 
   touched : (p : ℕ) (e : Entry) → Spot p e → Touch C (δ p) (f p) e
   touched p e (here a g) =
       rw (g, ← a)
-      (made (channel y) (fileOfRow r) (inl refl) key-at (inr refl) new-key (new-file .kept)
-      (file-short _ _ _ _ new-file (s .fine (is-open y (r .entry) h .kept)))
-      (still (r .at) (λ i. omega arith)))
+      (made (Open y) (File (nameOf (r .entry))) (inl refl) key-at (inr refl) new-key (new-file .permanent)
+      (file-short _ _ new-file (s .fine (is-open y (r .entry) h .tentative)))
+      (unmoved (r .at) (λ i. omega arith)))
   touched p e (beyond b g) = rw (g, ← b) (area (next .1) (grown-at .kind ∙ next .1))
   touched p e (old x i z a b g) =
       rw (g, ← z)
-      (gone (fileOfRow r) (inr refl) (old-key x i) (cleared (f (x .at)) (slot-seven d (x .at) (is-old x i .0 .slot)) .kind)
-      (still (x .at) (λ j. b (j ∙ z))))
-  touched p e (rest a b c g) = keep g (still p b)
+      (gone (File (nameOf (r .entry))) (inr refl) (old-key x i) (cleared (f (x .at)) (slot-seven d (x .at) (is-old x i .0 .slot)) .kind)
+      (unmoved (x .at) (λ j. b (j ∙ z))))
+  touched p e (elsewhere a b c g) = keep g (unmoved p b)
 
   evened : (p : ℕ) (e : Entry) → Spot p e → blocks e + δ (p + w) ≡ blocks (f p) + δ p
   evened p e (here a g) =
-      rw (g, ← a, closed-at .blocks, eq-eqb q q refl, still (r .at) (λ i. omega arith), s .is)
+      rw (g, ← a, closed-at .blocks, eq-eqb q q refl, unmoved (r .at) (λ i. omega arith), s .is)
       (let l : n ≤ blocks (f (r .at)) = rw (s .is) at least in omega arith)
   evened p e (beyond b g) =
-      rw (g, ← b, grown-at .blocks, eq-eqb q q refl, still (q + w) (λ i. omega arith), word-at d w q 4 (omega arith))
+      rw (g, ← b, grown-at .blocks, eq-eqb q q refl, unmoved (q + w) (λ i. omega arith), word-at d w q 4 (omega arith))
       (omega arith)
   evened p e (old x i z a b g) =
-      rw (g, still p b, still (p + w) (λ j. a (omega arith)))
+      rw (g, unmoved p b, unmoved (p + w) (λ j. a (omega arith)))
       (rw (← z, cleared (f (x .at)) (slot-seven d (x .at) (is-old x i .0 .slot)) .blocks))
-  evened p e (rest a b c g) = rw (g, still p b, still (p + w) (λ j. a (omega arith)))
+  evened p e (elsewhere a b c g) = rw (g, unmoved p b, unmoved (p + w) (λ j. a (omega arith)))
 
   -- fits and owns
   here-fit : (j x : ℕ) → j ≤ 6 → Fit w (put (r .at) j x)
@@ -210,84 +216,90 @@ module _ (d : List ℕ) (st : All (Stand d) (rows d)) (r : Row) (s : Stand d r) 
 
   fits : All (Fit w) ws
   fits = (
-    here-fit 0 1024 (omega arith),
+    here-fit statusWord permanentStatus (omega arith),
     (
-      here-fit 4 n (omega arith),
-      (here-fit 5 0 (omega arith), (record { on = next .0 .on; within = omega arith }, fits-old o refl)),
+      here-fit lengthWord n (omega arith),
+      (here-fit channelWord 0 (omega arith), (record { on = next .0 .on; within = omega arith }, fits-old o refl)),
     ),
   )
 
   owns-old : (u : Option Row) → o ≡ u → All (Owns d C) (replacing u)
   unfolding replacing emptying
   owns-old none i = tt
-  owns-old (some x) i = (mine (fileOfRow r) (inr refl) (old-key x i), tt)
+  owns-old (some x) i = (mine (File (nameOf (r .entry))) (inr refl) (old-key x i), tt)
 
   owns : All (Owns d C) ws
   owns =
-      let m = mine (channel y) (inl refl) key-at in
-      (m, (m, (m, (after (channel y) (r .at) (inl refl) key-at refl (next .1), owns-old o refl))))
+      let m = mine (Open y) (inl refl) key-at in
+      (m, (m, (m, (after (Open y) (r .at) (inl refl) key-at refl (next .1), owns-old o refl))))
 
-  -- the channel is closed, and the file comes from it
-  abbrev Known : Row → Type 0
-  Known x = Only (holds (channel y)) (r .at) x × (holds (fileOfRow r) (x .entry) ≡ true → Replaced o x)
+  -- the channel is closed
+  not-open : (x : Row) → Stand d x → Only (holds (Open y)) (r .at) x → (r .at ≡ x .at → ⊥) → holds (Open y) (f (x .at)) ≡ false
+  not-open x t k a = never (holds (Open y) (f (x .at))) (λ z. a (sym (k (rw (t .is) z))))
 
-  known : All Known (rows d)
-  known =
-      all-both (Only (holds (channel y)) (r .at)) (λ (x : Row). holds (fileOfRow r) (x .entry) ≡ true → Replaced o x) Known
-      (λ x a b. (a, b)) (rows d) only one-old
-
-  not-open : (x : Row) → Stand d x → Known x → (r .at ≡ x .at → ⊥) → holds (channel y) (f (x .at)) ≡ false
-  not-open x t k a = never (holds (channel y) (f (x .at))) (λ z. a (sym (k .0 (rw (t .is) z))))
-
-  not-file : (x : Row) → Stand d x → Known x → ((z : Row) → o ≡ some z → z .at ≡ x .at → ⊥)
-      → holds (fileOfRow r) (f (x .at)) ≡ false
-  not-file x t k c = never (holds (fileOfRow r) (f (x .at))) (λ z. go o refl (k .1 (rw (t .is) z)))
-    where
-      go : (u : Option Row) → o ≡ u → Replaced u x → ⊥
-      go none i m = m
-      go (some z) i m = c z i (sym m)
-
-  closed-away : (x : Row) → Stand d x → Known x → (e : Entry) → Spot (x .at) e → holds (channel y) e ≡ false
+  closed-away : (x : Row) → Stand d x → Only (holds (Open y)) (r .at) x → (e : Entry) → Spot (x .at) e → holds (Open y) e ≡ false
   closed-away x t k e (here a g) =
-      rw (g, ← a) (other-key (channel y) (fileOfRow r) _ (λ i. channel≢file y _ _ _ i) new-key)
-  closed-away x t k e (beyond b g) = rw (g, ← b) (empty-holds (channel y) _ (grown-at .kind ∙ next .1))
-  closed-away x t k e (old z i j a b g) = rw g (empty-holds (channel y) _ (cleared _ (slot-seven d (x .at) (t .slot)) .kind))
-  closed-away x t k e (rest a b c g) = rw g (not-open x t k a)
+      rw (g, ← a) (other-key (Open y) (File (nameOf (r .entry))) _ (λ i. file≢open _ y (sym i)) new-key)
+  closed-away x t k e (beyond b g) = rw (g, ← b) (empty-holds (Open y) _ (grown-at .kind ∙ next .1))
+  closed-away x t k e (old z i j a b g) = rw g (empty-holds (Open y) _ (cleared _ (slot-seven d (x .at) (t .slot)) .kind))
+  closed-away x t k e (elsewhere a b c g) = rw g (not-open x t k a)
 
-  file-made : (x : Row) → Stand d x → Known x → (e : Entry) → Spot (x .at) e
-      → holds (fileOfRow r) e ≡ holds (channel y) (f (x .at))
-  file-made x t k e (here a g) = rw (g, ← a, new-key, key-at)
-  file-made x t k e (beyond b g) =
-      rw (g, ← b, empty-holds (fileOfRow r) _ (grown-at .kind ∙ next .1), empty-holds (channel y) _ (next .1))
-  file-made x t k e (old z i j a b g) =
-      rw (g, not-open x t k a) (empty-holds (fileOfRow r) _ (cleared _ (slot-seven d (x .at) (t .slot)) .kind))
-  file-made x t k e (rest a b c g) = rw (g, not-open x t k a) (not-file x t k c)
+  channel-gone : All (After d (write d ws) (Open y) nothing) (rows d)
+  channel-gone =
+      after-writes d st ws fits (Open y) nothing (Only (holds (Open y)) (r .at)) only (λ x t k. closed-away x t k _ (spot (x .at)))
 
-  channel-gone : All (After d (write d ws) (channel y) nothing) (rows d)
-  channel-gone = after-writes d st ws fits (channel y) nothing Known known (λ x t k. closed-away x t k _ (spot (x .at)))
+  -- and the file comes from it, if its name may stand once
+  module _ (one-file : once (File (nameOf (r .entry))) ≡ true) where
+    abbrev Known : Row → Type 0
+    Known x = Only (holds (Open y)) (r .at) x × (holds (File (nameOf (r .entry))) (x .entry) ≡ true → Replaced o x)
 
-  file-comes : All (After d (write d ws) (fileOfRow r) (holds (channel y))) (rows d)
-  file-comes = after-writes d st ws fits (fileOfRow r) (holds (channel y)) Known known (λ x t k. file-made x t k _ (spot (x .at)))
+    known : All Known (rows d)
+    known =
+        all-both (Only (holds (Open y)) (r .at)) (λ (x : Row). holds (File (nameOf (r .entry))) (x .entry) ≡ true → Replaced o x)
+        Known (λ x a b. (a, b)) (rows d) only (one-old one-file)
 
-  written : entryAt (write d ws) w (r .at) ≡ set (set (set (f (r .at)) 0 1024) 4 n) 5 0
-  written = at-write ws d w (r .at) fits (s .slot .on) ∙ go _ (spot (r .at))
+    not-file : (x : Row) → Stand d x → Known x → ((z : Row) → o ≡ some z → z .at ≡ x .at → ⊥)
+        → holds (File (nameOf (r .entry))) (f (x .at)) ≡ false
+    not-file x t k c = never (holds (File (nameOf (r .entry))) (f (x .at))) (λ z. go o refl (k .1 (rw (t .is) z)))
+      where
+        go : (u : Option Row) → o ≡ u → Replaced u x → ⊥
+        go none i m = m
+        go (some z) i m = c z i (sym m)
+
+    file-from : (x : Row) → Stand d x → Known x → (e : Entry) → Spot (x .at) e
+        → holds (File (nameOf (r .entry))) e ≡ holds (Open y) (f (x .at))
+    file-from x t k e (here a g) = rw (g, ← a, new-key, key-at)
+    file-from x t k e (beyond b g) =
+        rw (g, ← b, empty-holds (File (nameOf (r .entry))) _ (grown-at .kind ∙ next .1), empty-holds (Open y) _ (next .1))
+    file-from x t k e (old z i j a b g) =
+        rw (g, not-open x t (k .0) a)
+        (empty-holds (File (nameOf (r .entry))) _ (cleared _ (slot-seven d (x .at) (t .slot)) .kind))
+    file-from x t k e (elsewhere a b c g) = rw (g, not-open x t (k .0) a) (not-file x t k c)
+
+    file-comes : All (After d (write d ws) (File (nameOf (r .entry))) (holds (Open y))) (rows d)
+    file-comes =
+        after-writes d st ws fits (File (nameOf (r .entry))) (holds (Open y)) Known known
+        (λ x t k. file-from x t k _ (spot (x .at)))
+
+  entry-after : entryAt (write d ws) w (r .at) ≡ shut (f (r .at))
+  entry-after = at-write ws d w (r .at) fits (s .slot .on) ∙ go _ (spot (r .at))
     where
-      go : (e : Entry) → Spot (r .at) e → e ≡ set (set (set (f (r .at)) 0 1024) 4 n) 5 0
+      go : (e : Entry) → Spot (r .at) e → e ≡ shut (f (r .at))
       go e (here a g) = g
       go e (beyond b g) = absurd (omega arith)
       go e (old x i z a b g) = absurd (a refl)
-      go e (rest a b c g) = absurd (a refl)
+      go e (elsewhere a b c g) = absurd (a refl)
 
-  pub making : Made d r (channel y) (fileOfRow r) n ws
+  pub making : Made d r (Open y) (File (nameOf (r .entry))) n ws
   making =
       record {
         good =
             good d st C ws fits owns δ
-            (λ t. still (512 * t + 5) (not-first w (r .at) t (omega arith) (s .slot .on)))
+            (λ t. unmoved (512 * t + 5) (not-first w (r .at) t (omega arith) (s .slot .on)))
             (λ p. (touched p _ (spot p), evened p _ (spot p)))
-            (made-source d (write d ws) (channel y) (fileOfRow r) channel-gone file-comes);
+            (made-source d (write d ws) (Open y) (File (nameOf (r .entry))) (once-open y) channel-gone file-comes);
         gone = channel-gone;
         made = file-comes;
-        length = ap blocks written ∙ closed-at .blocks;
-        date = ap dateOf written ∙ closed-at .date ∙ ap dateOf (sym (s .is));
+        length = ap blocks entry-after ∙ closed-at .blocks;
+        date = ap dateOf entry-after ∙ closed-at .date ∙ ap dateOf (sym (s .is));
       }

@@ -6,17 +6,19 @@ use mathlib.Core.Logic.{_⊎_, inl, inr, ⊎-elim}
 use mathlib.Core.Bool.{Bool, true, false, cond, _&&_, true≢false}
 use mathlib.Core.List.{List}
 use mathlib.Core.Option.{Option, none, some, Option·none-ne-some}
-use lib.ListN.{getD}
 use lib.Dec.{leb}
 use borrow.Author.Tests.{leb-true}
-use Rattle.names.specs.Radix.{legalName}
 use Rattle.bools.proofs.Bools.{both}
-use Rattle.meaning.specs.Words.{blocks, Row, rows}
+use Rattle.meaning.specs.declared.Name.{Name}
+use Rattle.meaning.specs.Words.{nameOf, blocks, Row, rows}
 use Rattle.meaning.specs.Answers.{find, fileOf, openOn}
-use Rattle.meaning.specs.Requests.{emptying, goodChannel, wordOf, renaming, closing}
-use Rattle.laws.specs.Order.{Key, file, channel, fileOfRow, OnOpen, All}
+use Rattle.meaning.specs.Requests.{legal, emptying, goodChannel, wordOf, renaming, closing}
+use Rattle.meaning.specs.declared.Key.{Key}
+use Rattle.meaning.specs.declared.Key.the-variants.{File, Open}
+use Rattle.meaning.specs.Keys.{holds, once}
+use Rattle.laws.specs.Order.{OnOpen, All}
 use Rattle.laws.proofs.Alls.{all-map}
-use Rattle.laws.proofs.Keys.{holds}
+use Rattle.laws.proofs.Keys.{once-file, once-open}
 use Rattle.laws.proofs.Soundness.{Sound}
 use Rattle.laws.proofs.Rows.{Stand, standing, few-rows, find-some, Fails, find-none, Only, find-only}
 use Rattle.laws.proofs.Entries.{legal-short}
@@ -26,75 +28,76 @@ use Rattle.laws.proofs.Closing.{Replaced, making}
 use Rattle.laws.proofs.Plans.{Plan, refused, done, deletePlan, abandonPlan, renamePlan, closePlan}
 
 -- what is found by a key
-pub file-key : (d : List ℕ) (a b c : ℕ) → fileOf d a b c ≡ find (holds (file a b c)) (rows d)
-unfolding fileOf holds
-file-key d a b c = refl
+pub file-key : (d : List ℕ) (n : Name) → fileOf d n ≡ find (holds (File n)) (rows d)
+unfolding fileOf
+file-key d n = refl
 
-pub open-key : (d : List ℕ) (x : ℕ) → openOn d x ≡ find (holds (channel x)) (rows d)
-unfolding openOn holds
+pub open-key : (d : List ℕ) (x : ℕ) → openOn d x ≡ find (holds (Open x)) (rows d)
+unfolding openOn
 open-key d x = refl
 
 pub record FoundBy (d : List ℕ) (k : Key) (r : Row) : Type 0 where
   pub stand : Stand d r
   pub has : holds k (r .entry) ≡ true
-  pub only : All (Only (holds k) (r .at)) (rows d)
+  pub only : once k ≡ true → All (Only (holds k) (r .at)) (rows d)
 
 pub found-by : (v : ℕ) (d : List ℕ) → Sound v d → (k : Key) (r : Row) → find (holds k) (rows d) ≡ some r → FoundBy d k r
 found-by v d s k r e =
     let x = find-some (Stand d) (holds k) (rows d) r (standing v d s) e in
-    record { stand = x .0; has = x .1; only = find-only (holds k) (rows d) r (few-rows v d s k) e }
+    record { stand = x .0; has = x .1; only = λ o. find-only (holds k) (rows d) r (few-rows v d s k o) e }
 
 -- what the writes make of the keys
 module _ (v : ℕ) (d : List ℕ) (s : Sound v d) where
   abbrev st : All (Stand d) (rows d)
   st = standing v d s
 
-  pub file-gone : (a b c : ℕ) (r : Row) → fileOf d a b c ≡ some r → Gone d (file a b c) (emptying r)
-  file-gone a b c r e =
-      let f = found-by v d s (file a b c) r (sym (file-key d a b c) ∙ e) in
-      clearing d st r (f .stand) (file a b c) (f .has) (f .only)
+  emptied : (k : Key) → once k ≡ true → (r : Row) → find (holds k) (rows d) ≡ some r → Gone d k (emptying r)
+  emptied k o r e =
+      let f = found-by v d s k r e in
+      clearing d st r (f .stand) k (f .has) (f .only o)
 
-  pub open-gone : (x : ℕ) (r : Row) → openOn d x ≡ some r → Gone d (channel x) (emptying r)
-  open-gone x r e =
-      let f = found-by v d s (channel x) r (sym (open-key d x) ∙ e) in
-      clearing d st r (f .stand) (channel x) (f .has) (f .only)
+  pub file-gone : (n : Name) → once (File n) ≡ true → (r : Row) → fileOf d n ≡ some r → Gone d (File n) (emptying r)
+  file-gone n o r e = emptied (File n) o r (sym (file-key d n) ∙ e)
 
-  pub name-made : (a b c a′ b′ c′ : ℕ) (r : Row) → fileOf d a b c ≡ some r → fileOf d a′ b′ c′ ≡ none → legalName a′ b′ c′ ≡ true
-      → Made d r (file a b c) (file a′ b′ c′) (blocks (r .entry)) (renaming r a′ b′ c′)
-  name-made a b c a′ b′ c′ r e e′ l =
-      let g = sym (file-key d a b c) ∙ e in
-      let g′ = sym (file-key d a′ b′ c′) ∙ e′ in
-      let f = found-by v d s (file a b c) r g in
-      giving d st r (f .stand) a b c a′ b′ c′ (f .has) (f .only) (find-none (holds (file a′ b′ c′)) (rows d) g′)
+  pub open-gone : (x : ℕ) (r : Row) → openOn d x ≡ some r → Gone d (Open x) (emptying r)
+  open-gone x r e = emptied (Open x) (once-open x) r (sym (open-key d x) ∙ e)
+
+  pub name-made : (old new : Name) → once (File old) ≡ true → (r : Row) → fileOf d old ≡ some r → fileOf d new ≡ none
+      → legal new ≡ true → Made d r (File old) (File new) (blocks (r .entry)) (renaming r new)
+  name-made old new o r e e′ l =
+      let g = sym (file-key d old) ∙ e in
+      let g′ = sym (file-key d new) ∙ e′ in
+      let f = found-by v d s (File old) r g in
+      giving d st r (f .stand) old new o (f .has) (f .only o) (find-none (holds (File new)) (rows d) g′)
       (λ q. Option·none-ne-some r (sym g′ ∙ ap (λ (k : Key). find (holds k) (rows d)) (sym q) ∙ g))
-      (legal-short a′ b′ c′ l)
+      (legal-short new l)
 
-  one-replaced : (k : Key) (o : Option Row) → find (holds k) (rows d) ≡ o
+  one-replaced : (k : Key) → once k ≡ true → (o : Option Row) → find (holds k) (rows d) ≡ o
       → All (λ (x : Row). holds k (x .entry) ≡ true → Replaced o x) (rows d)
-  one-replaced k none e =
+  one-replaced k one none e =
       all-map (Fails (holds k)) (λ (x : Row). holds k (x .entry) ≡ true → ⊥) (λ x g z. true≢false (sym z ∙ g)) (rows d)
       (find-none (holds k) (rows d) e)
-  one-replaced k (some r) e = found-by v d s k r e .only
+  one-replaced k one (some r) e = found-by v d s k r e .only one
 
   pub file-made : (y : ℕ) (r : Row) → openOn d y ≡ some r → (n : ℕ) → n ≤ blocks (r .entry)
-      → Made d r (channel y) (fileOfRow r) n (closing d r n)
+      → Made d r (Open y) (File (nameOf (r .entry))) n (closing d r n)
   unfolding closing
   file-made y r e n l =
-      let f = found-by v d s (channel y) r (sym (open-key d y) ∙ e) in
-      making d st r (f .stand) y (f .has) (f .only) n l
-      (fileOf d (getD (r .entry) 1 0) (getD (r .entry) 2 0) (getD (r .entry) 3 0))
-      (λ x g. let z = found-by v d s (fileOfRow r) x (sym (file-key d _ _ _) ∙ g) in (z .stand, z .has))
-      (one-replaced (fileOfRow r) _ (sym (file-key d _ _ _)))
+      let k = File (nameOf (r .entry)) in
+      let f = found-by v d s (Open y) r (sym (open-key d y) ∙ e) in
+      making d st r (f .stand) y (f .has) (f .only (once-open y)) n l (fileOf d (nameOf (r .entry)))
+      (λ x g. let z = found-by v d s k x (sym (file-key d (nameOf (r .entry))) ∙ g) in (z .stand, z .has))
+      (λ o. one-replaced k o (fileOf d (nameOf (r .entry))) (sym (file-key d (nameOf (r .entry)))))
 
 -- the channel of a request, where it is a channel and is open; what a close and an abandon name
 abbrev pub openAt : List ℕ → ℕ → ℕ → Option Row
 openAt d job ch = cond (goodChannel job ch) (openOn d (wordOf job ch)) none
 
 abbrev pub CloseNames : ℕ → Option Row → Key → Type 0
-CloseNames x o k = OnOpen o (λ r. (k ≡ channel x) ⊎ (k ≡ fileOfRow r))
+CloseNames x o k = OnOpen o (λ r. (k ≡ Open x) ⊎ (k ≡ File (nameOf (r .entry))))
 
 abbrev pub AbandonNames : ℕ → Option Row → Key → Type 0
-AbandonNames x o k = OnOpen o (λ r. k ≡ channel x)
+AbandonNames x o k = OnOpen o (λ r. k ≡ Open x)
 
 pub open-at : (d : List ℕ) (job ch : ℕ) (r : Row) → goodChannel job ch ≡ true → openOn d (wordOf job ch) ≡ some r
     → openAt d job ch ≡ some r
@@ -105,61 +108,74 @@ pub record Refused (p : Plan) : Type 0 where
   pub less : ℕ
   pub plan : p ≡ refused (suc less)
 
-pub record Deleted (d : List ℕ) (a b c : ℕ) : Type 0 where
+-- (a file that is deleted or renamed has a name that may stand once)
+pub record DeleteDone (d : List ℕ) (name : Name) : Type 0 where
   pub row : Row
-  pub legal : legalName a b c ≡ true
-  pub old : fileOf d a b c ≡ some row
-  pub plan : deletePlan d a b c ≡ done row (blocks (row .entry)) (emptying row)
+  pub legal : legal name ≡ true
+  pub single : once (File name) ≡ true
+  pub old : fileOf d name ≡ some row
+  pub plan : deletePlan d name ≡ done row (blocks (row .entry)) (emptying row)
 
-pub delete-view : (d : List ℕ) (a b c : ℕ) → Refused (deletePlan d a b c) ⊎ Deleted d a b c
+pub delete-view : (d : List ℕ) (name : Name) → Refused (deletePlan d name) ⊎ DeleteDone d name
 unfolding deletePlan
-delete-view d a b c = go (legalName a b c) refl (fileOf d a b c) refl
+delete-view d name = go (legal name) refl (fileOf d name) refl
   where
-    go : (x : Bool) → legalName a b c ≡ x → (o : Option Row) → fileOf d a b c ≡ o → Refused (deletePlan d a b c) ⊎ Deleted d a b c
+    go : (x : Bool) → legal name ≡ x → (o : Option Row) → fileOf d name ≡ o → Refused (deletePlan d name) ⊎ DeleteDone d name
     go false i o e = inl (record { less = 6; plan = rw i })
     go true i none e = inl (record { less = 12; plan = rw (i, e) })
-    go true i (some r) e = inr (record { row = r; legal = i; old = e; plan = rw (i, e) })
+    go true i (some r) e = inr (record { row = r; legal = i; single = once-file name; old = e; plan = rw (i, e) })
 
-pub record Abandoned (d : List ℕ) (job ch : ℕ) : Type 0 where
+pub record AbandonDone (d : List ℕ) (job ch : ℕ) : Type 0 where
   pub row : Row
   pub good : goodChannel job ch ≡ true
   pub old : openOn d (wordOf job ch) ≡ some row
   pub plan : abandonPlan d job ch ≡ done row (blocks (row .entry)) (emptying row)
 
-pub abandon-view : (d : List ℕ) (job ch : ℕ) → Refused (abandonPlan d job ch) ⊎ Abandoned d job ch
+pub abandon-view : (d : List ℕ) (job ch : ℕ) → Refused (abandonPlan d job ch) ⊎ AbandonDone d job ch
 unfolding abandonPlan
 abandon-view d job ch = go (goodChannel job ch) refl (openOn d (wordOf job ch)) refl
   where
     go : (x : Bool) → goodChannel job ch ≡ x → (o : Option Row) → openOn d (wordOf job ch) ≡ o
-        → Refused (abandonPlan d job ch) ⊎ Abandoned d job ch
+        → Refused (abandonPlan d job ch) ⊎ AbandonDone d job ch
     go false i o e = inl (record { less = 7; plan = rw i })
     go true i none e = inl (record { less = 14; plan = rw (i, e) })
     go true i (some r) e = inr (record { row = r; good = i; old = e; plan = rw (i, e) })
 
-pub record Renamed (d : List ℕ) (a b c a′ b′ c′ : ℕ) : Type 0 where
+pub record RenameDone (d : List ℕ) (old new : Name) : Type 0 where
   pub row : Row
-  pub legal : legalName a b c ≡ true
-  pub new-legal : legalName a′ b′ c′ ≡ true
-  pub old : fileOf d a b c ≡ some row
-  pub new : fileOf d a′ b′ c′ ≡ none
-  pub plan : renamePlan d a b c a′ b′ c′ ≡ done row (blocks (row .entry)) (renaming row a′ b′ c′)
+  pub legal-old : legal old ≡ true
+  pub legal-new : legal new ≡ true
+  pub single-old : once (File old) ≡ true
+  pub single-new : once (File new) ≡ true
+  pub was : fileOf d old ≡ some row
+  pub none-new : fileOf d new ≡ none
+  pub plan : renamePlan d old new ≡ done row (blocks (row .entry)) (renaming row new)
 
-pub rename-view : (d : List ℕ) (a b c a′ b′ c′ : ℕ) → Refused (renamePlan d a b c a′ b′ c′) ⊎ Renamed d a b c a′ b′ c′
+pub rename-view : (d : List ℕ) (old new : Name) → Refused (renamePlan d old new) ⊎ RenameDone d old new
 unfolding renamePlan
-rename-view d a b c a′ b′ c′ =
-    go (legalName a b c && legalName a′ b′ c′) refl (fileOf d a b c) refl (fileOf d a′ b′ c′) refl
+rename-view d old new = go (legal old && legal new) refl (fileOf d old) refl (fileOf d new) refl
   where
-    go : (x : Bool) → legalName a b c && legalName a′ b′ c′ ≡ x → (o : Option Row) → fileOf d a b c ≡ o
-        → (o′ : Option Row) → fileOf d a′ b′ c′ ≡ o′ → Refused (renamePlan d a b c a′ b′ c′) ⊎ Renamed d a b c a′ b′ c′
+    go : (x : Bool) → legal old && legal new ≡ x → (o : Option Row) → fileOf d old ≡ o → (o′ : Option Row) → fileOf d new ≡ o′
+        → Refused (renamePlan d old new) ⊎ RenameDone d old new
     go false i o e o′ e′ = inl (record { less = 6; plan = rw i })
     go true i none e o′ e′ = inl (record { less = 12; plan = rw (i, e) })
     go true i (some r) e (some r′) e′ = inl (record { less = 13; plan = rw (i, e, e′) })
     go true i (some r) e none e′ =
-        let l = both (legalName a b c) (legalName a′ b′ c′) i in
-        inr (record { row = r; legal = l .0; new-legal = l .1; old = e; new = e′; plan = rw (i, e, e′) })
+        let l = both (legal old) (legal new) i in
+        inr
+        (record {
+          row = r;
+          legal-old = l .0;
+          legal-new = l .1;
+          single-old = once-file old;
+          single-new = once-file new;
+          was = e;
+          none-new = e′;
+          plan = rw (i, e, e′);
+        })
 
 -- the final length is n
-pub record Closed (d : List ℕ) (job ch : ℕ) (final : Option ℕ) : Type 0 where
+pub record CloseDone (d : List ℕ) (job ch : ℕ) (final : Option ℕ) : Type 0 where
   pub row : Row
   pub n : ℕ
   pub good : goodChannel job ch ≡ true
@@ -167,18 +183,18 @@ pub record Closed (d : List ℕ) (job ch : ℕ) (final : Option ℕ) : Type 0 wh
   pub least : n ≤ blocks (row .entry)
   pub plan : closePlan d job ch final ≡ done row n (closing d row n)
 
-pub close-view : (d : List ℕ) (job ch : ℕ) (final : Option ℕ) → Refused (closePlan d job ch final) ⊎ Closed d job ch final
+pub close-view : (d : List ℕ) (job ch : ℕ) (final : Option ℕ) → Refused (closePlan d job ch final) ⊎ CloseDone d job ch final
 unfolding closePlan
 close-view d job ch final = go (goodChannel job ch) refl (openOn d (wordOf job ch)) refl final refl
   where
     at : (r : Row) → goodChannel job ch ≡ true → openOn d (wordOf job ch) ≡ some r → (n : ℕ) → final ≡ some n
-        → (y : Bool) → leb n (blocks (r .entry)) ≡ y → Refused (closePlan d job ch final) ⊎ Closed d job ch final
+        → (y : Bool) → leb n (blocks (r .entry)) ≡ y → Refused (closePlan d job ch final) ⊎ CloseDone d job ch final
     at r i e n g false j = inl (record { less = 15; plan = rw (i, e, g, j) })
     at r i e n g true j =
         inr (record { row = r; n = n; good = i; old = e; least = leb-true n (blocks (r .entry)) j; plan = rw (i, e, g, j) })
 
     go : (x : Bool) → goodChannel job ch ≡ x → (o : Option Row) → openOn d (wordOf job ch) ≡ o → (n : Option ℕ) → final ≡ n
-        → Refused (closePlan d job ch final) ⊎ Closed d job ch final
+        → Refused (closePlan d job ch final) ⊎ CloseDone d job ch final
     go false i o e n g = inl (record { less = 7; plan = rw i })
     go true i none e n g = inl (record { less = 14; plan = rw (i, e) })
     go true i (some r) e none g = inl (record { less = 15; plan = rw (i, e, g) })
@@ -189,11 +205,11 @@ module _ (v : ℕ) (d : List ℕ) (s : Sound v d) where
   refused-good : (C : Key → Type 0) (p : Plan) → Refused p → Good d C (p .writes)
   refused-good C p r = rw (r .plan) (nothing-good d (standing v d s) C)
 
-  pub delete-good : (a b c : ℕ) → Good d (One (file a b c)) (deletePlan d a b c .writes)
-  delete-good a b c =
-      ⊎-elim (refused-good (One (file a b c)) (deletePlan d a b c))
-      (λ x. rw (x .plan) (file-gone v d s a b c (x .row) (x .old) .good))
-      (delete-view d a b c)
+  pub delete-good : (name : Name) → Good d (One (File name)) (deletePlan d name .writes)
+  delete-good name =
+      ⊎-elim (refused-good (One (File name)) (deletePlan d name))
+      (λ x. rw (x .plan) (file-gone v d s name (x .single) (x .row) (x .old) .good))
+      (delete-view d name)
 
   pub abandon-good : (job ch : ℕ) → Good d (AbandonNames (wordOf job ch) (openAt d job ch)) (abandonPlan d job ch .writes)
   abandon-good job ch =
@@ -205,11 +221,15 @@ module _ (v : ℕ) (d : List ℕ) (s : Sound v d) where
       (open-gone v d s (wordOf job ch) (x .row) (x .old) .good)))
       (abandon-view d job ch)
 
-  pub rename-good : (a b c a′ b′ c′ : ℕ) → Good d (Two (file a b c) (file a′ b′ c′)) (renamePlan d a b c a′ b′ c′ .writes)
-  rename-good a b c a′ b′ c′ =
-      ⊎-elim (refused-good (Two (file a b c) (file a′ b′ c′)) (renamePlan d a b c a′ b′ c′))
-      (λ x. rw (x .plan) (name-made v d s a b c a′ b′ c′ (x .row) (x .old) (x .new) (x .new-legal) .good))
-      (rename-view d a b c a′ b′ c′)
+  pub rename-made : (old new : Name) (x : RenameDone d old new)
+      → Made d (x .row) (File old) (File new) (blocks (x .row .entry)) (renaming (x .row) new)
+  rename-made old new x = name-made v d s old new (x .single-old) (x .row) (x .was) (x .none-new) (x .legal-new)
+
+  pub rename-good : (old new : Name) → Good d (Two (File old) (File new)) (renamePlan d old new .writes)
+  rename-good old new =
+      ⊎-elim (refused-good (Two (File old) (File new)) (renamePlan d old new))
+      (λ x. rw (x .plan) (rename-made old new x .good))
+      (rename-view d old new)
 
   pub close-good : (job ch : ℕ) (final : Option ℕ)
       → Good d (CloseNames (wordOf job ch) (openAt d job ch)) (closePlan d job ch final .writes)

@@ -12,12 +12,14 @@ use Rattle.meaning.specs.Words.{segments, rows}
 use Rattle.meaning.specs.Sound.{fault}
 use Rattle.meaning.specs.Answers.{find}
 use Rattle.meaning.specs.Batch.{serve, wordsAfter, answersTo}
-use Rattle.laws.specs.Order.{InBatch, Key, file, Names, Apart, All, Pairwise, Batch3, Answered, paired, Ordered, Demand3}
+use Rattle.meaning.specs.declared.Key.{Key}
+use Rattle.meaning.specs.declared.Key.the-variants.{File, Open}
+use Rattle.meaning.specs.Keys.{holds}
+use Rattle.laws.specs.Order.{InBatch, Names, Apart, All, Pairwise, Batch3, Answered, paired, Ordered, Demand3}
 use Rattle.laws.proofs.Alls.{all-perm, pairwise-perm}
-use Rattle.laws.proofs.Keys.{holds}
 use Rattle.laws.proofs.Soundness.{sound, data-blocks}
 use Rattle.laws.proofs.Writes.{length-write}
-use Rattle.laws.proofs.Deeds.{file-key}
+use Rattle.laws.proofs.Deeds.{file-key, open-key}
 use Rattle.laws.proofs.Served.{plan, plan-found, serve-words, serve-kept}
 use Rattle.laws.proofs.Swap.{names-back, turned, answer-same, words-same}
 
@@ -137,10 +139,15 @@ demand3 v d h =
           record {
             sound = batch-kept v qs d h (b .kinds);
             files =
-                λ x y z out.
-                file-key (wordsAfter v d qs) x y z
-                ∙ batch-found v qs d h (b .kinds) (b .apart) (file x y z) out
-                ∙ sym (file-key d x y z);
+                λ n out.
+                file-key (wordsAfter v d qs) n
+                ∙ batch-found v qs d h (b .kinds) (b .apart) (File n) out
+                ∙ sym (file-key d n);
+            channels =
+                λ x out.
+                open-key (wordsAfter v d qs) x
+                ∙ batch-found v qs d h (b .kinds) (b .apart) (Open x) out
+                ∙ sym (open-key d x);
             lengths =
                 let t = data-blocks v (wordsAfter v d qs) (sound v _ (batch-kept v qs d h (b .kinds))) in
                 let e : segments (wordsAfter v d qs) ≡ segments d = rw (batch-length v qs d h (b .kinds)) in

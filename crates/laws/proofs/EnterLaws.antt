@@ -1,5 +1,5 @@
--- Demand 2 of enter, on every sound directory: *Room* (Room) and *Kept* (EnterKept) together. Both go by the ways an enter can end (Entering)
--- and by the tidied directory, which is sound, with the same chain and the same living entries (TidiedSound).
+-- Demand 2 of enter, on every sound directory: *Room* (Room) and *Kept* (EnterKept) together. Both go by the ways an enter can end
+-- (Entering) and by the tidied directory, which is sound, with the same chain and the same living entries (TidiedSound).
 use Prim.Native.Nat.{ℕ}
 use mathlib.Core.Path.{_≡_}
 use mathlib.Core.List.{List}

@@ -1,6 +1,6 @@
--- The tentative entry in a sound directory. Where its segment has the slots, that segment is rendered again with the entry inserted; else it is
--- split, and the two halves are the way from it to the next. Either way the directory is sound, and has one more among its living entries: the
--- new one, where the area began.
+-- The tentative entry in a sound directory. Where its segment has the slots, that segment is rendered again with the entry inserted;
+-- else it is split, and the two halves are the way from it to the next. Either way the directory is sound, and has one more among its
+-- living entries: the new one, where the area began.
 use Prim.Native.Nat.{ℕ, zero, suc, _+_, _*_, _-_, _≤_, _<_}
 use mathlib.Core.Path.{_≡_, refl, sym, ap, ap₂, _∙_}
 use mathlib.Core.Logic.{_≢_}
@@ -19,14 +19,15 @@ use Rattle.meaning.specs.Words.{segments, segment, totalOf, linkOf, extraBytesO
 use Rattle.meaning.specs.Words.{kind, blocks, chunks, slots, upto, entries, total}
 use Rattle.meaning.specs.Requests.{render}
 use Rattle.meaning.specs.Enter.{withSegment, headerOf, Area, costAfter, hasRoom, inserted, kept, unsplit, split, entered}
-use Rattle.laws.specs.Order.{Key}
+use Rattle.meaning.specs.declared.Key.{Key}
+use Rattle.meaning.specs.Keys.{holds, once}
 use Rattle.laws.specs.Sound.{Rule2}
 use Rattle.laws.proofs.Rule5.{rule1-holds, rule2-holds}
-use Rattle.laws.proofs.Keys.{holds}
 use Rattle.laws.proofs.Soundness.{Sound, total-append}
 use Rattle.laws.proofs.Move.{head-word}
 use Rattle.laws.proofs.Fine.{flag}
-use Rattle.laws.proofs.Rendered.{Body, Written, written, length-render, header-length, header-word, with-length, with-own, with-other}
+use Rattle.laws.proofs.Rendered.{Body, Written, written, length-render, header-length, header-word, with-length, with-own}
+use Rattle.laws.proofs.Rendered.{with-other}
 use Rattle.laws.proofs.Living.{Live, living, livingOf, seek, counted, Gained, gained-within, gained-few}
 use Rattle.laws.proofs.Way.{shapeOf, entriesIn, spread, Stop, Like}
 use Rattle.laws.proofs.Anew.{stop-at, Change, Anew, anew}
@@ -104,10 +105,10 @@ module _ (v : ℕ) (t : List ℕ) (st : Sound v t) (a : Area) (n : ℕ) (new : E
   -- one more among the living of the segment is one more among all; and no other has its key
   finish : (D : List ℕ) (before after : List Live) → livingOf t ≡ before ++ (living b es ++ after)
       → livingOf D ≡ before ++ (living b out ++ after)
-      → (((k : Key) → counted (holds k) (livingOf D) ≤ 1) → Sound v D)
+      → (((k : Key) → once k ≡ true → counted (holds k) (livingOf D) ≤ 1) → Sound v D)
       → Entered v t D (liveAt (a .first) new)
   finish D before after was is sound =
-      record { sound = sound (λ k. gained-few g (holds k) (few-living v t st k) (free k)); gained = g }
+      record { sound = sound (λ k o. gained-few g (holds k) (few-living v t st k o) (free k)); gained = g }
     where
       g : Gained (liveAt (a .first) new) (livingOf t) (livingOf D)
       g = rw (was, is, x .first) (gained-within before after (ad .gained b))
@@ -225,8 +226,8 @@ module _ (v : ℕ) (t : List ℕ) (st : Sound v t) (a : Area) (n : ℕ) (new : E
     at-next : segment t2 next ≡ g2
     at-next = with-own t1 next g2 (omega arith) inside1 (length-render newHeader upper)
 
-    at-other : (z : ℕ) → 1 ≤ z → z ≤ highest t → z ≢ s → segment t2 z ≡ segment t z
-    at-other z l i ne =
+    other-segment : (z : ℕ) → 1 ≤ z → z ≤ highest t → z ≢ s → segment t2 z ≡ segment t z
+    other-segment z l i ne =
         with-other t1 next g2 (omega arith) inside1 (length-render newHeader upper) z l (λ e. omega arith)
         ∙ with-other t s g1 low inside (length-render (set header 1 next) lower) z l ne
 
@@ -291,7 +292,7 @@ module _ (v : ℕ) (t : List ℕ) (st : Sound v t) (a : Area) (n : ℕ) (new : E
       where
         like : (z : ℕ) → 1 ≤ z → z ≤ highest t → z ≢ s → Like w t D z
         like z l i ne =
-            let e = at-other z l i ne in
+            let e = other-segment z l i ne in
             record {
               total = word z 0 (segment t z) e (omega arith) (λ q. omega arith);
               link = word z 1 (segment t z) e (omega arith) (λ q. omega arith);
@@ -332,7 +333,9 @@ module _ (v : ℕ) (t : List ℕ) (st : Sound v t) (a : Area) (n : ℕ) (new : E
   is-entered = go (leb (length es + a .cost) (capacity t)) refl
     where
       room : hasRoom t es (a .cost) ≡ true
-      room = rw (x .cost) (both (leb 1 (blocks (x .here))) (hasRoom t es (costAfter (flag false (x .before)))) (sym (x .choice) ∙ ch .eligible) .1)
+      room =
+          rw (x .cost)
+          (both (leb 1 (blocks (x .here))) (hasRoom t es (costAfter (flag false (x .before)))) (sym (x .choice) ∙ ch .eligible) .1)
 
       go : (z : Bool) → leb (length es + a .cost) (capacity t) ≡ z
           → Entered v t (cond z (unsplit t new n a) (split t new n a)) (liveAt (a .first) new)

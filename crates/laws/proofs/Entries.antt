@@ -5,14 +5,17 @@ use mathlib.Core.Path.{_≡_, refl}
 use mathlib.Core.Bool.{true, false, _&&_}
 use mathlib.Core.List.{List, [], _∷_}
 use native.Mathlib.Omega.{arith}
-use lib.ListN.{length, getD, set}
+use lib.ListN.{length, set}
 use borrow.Author.Tests.{leb-true, le-ltb}
 use Rattle.names.specs.Radix.{spells, legalText, textOf, legalName}
 use Rattle.bools.proofs.Bools.{both}
 use Rattle.meaning.specs.declared.Kind.the-variants.{Empty, Permanent}
-use Rattle.meaning.specs.Kinds.{kindOf}
-use Rattle.meaning.specs.Words.{slotWords, Entry, kind, blocks, dateOf}
+use Rattle.meaning.specs.declared.Name.{Name}
+use Rattle.meaning.specs.Kinds.{emptyStatus, permanentStatus, kindOf}
+use Rattle.meaning.specs.Words.{slotWords, Entry, statusWord, nameWord, name2Word, extensionWord, lengthWord, channelWord}
+use Rattle.meaning.specs.Words.{kind, nameOf, blocks, dateOf}
 use Rattle.meaning.specs.Sound.{longName}
+use Rattle.meaning.specs.Requests.{legal}
 use Rattle.walks.specs.Scan.{longNamed}
 use Rattle.laws.proofs.Keys.{IsFile}
 use Rattle.laws.proofs.Grid.{entryAt, length-at}
@@ -39,43 +42,47 @@ pub record Cleared (e e′ : Entry) : Type 0 where
   pub kind : kind e′ ≡ Empty
   pub blocks : blocks e′ ≡ blocks e
 
-pub cleared : (e : Entry) → Seven e → Cleared e (set e 0 512)
+pub cleared : (e : Entry) → Seven e → Cleared e (set e statusWord emptyStatus)
 unfolding kindOf
 cleared e (seven x0 x1 x2 x3 x4 x5 x6 xs) = record { kind = refl; blocks = refl }
 
 -- the name words set
-pub record Renamed (a b c : ℕ) (e e′ : Entry) : Type 0 where
-  pub file : kind e ≡ Permanent → IsFile a b c e′
+pub record Renamed (n : Name) (e e′ : Entry) : Type 0 where
+  pub file : kind e ≡ Permanent → IsFile n e′
   pub blocks : blocks e′ ≡ blocks e
   pub date : dateOf e′ ≡ dateOf e
 
-pub renamed : (e : Entry) (a b c : ℕ) → Seven e → Renamed a b c e (set (set (set e 1 a) 2 b) 3 c)
-renamed e a b c (seven x0 x1 x2 x3 x4 x5 x6 xs) =
-    record { file = λ h. record { kept = h; one = refl; two = refl; three = refl }; blocks = refl; date = refl }
+pub renamed : (e : Entry) (n : Name) → Seven e
+    → Renamed n e (set (set (set e nameWord (n .first)) name2Word (n .second)) extensionWord (n .extension))
+renamed e n (seven x0 x1 x2 x3 x4 x5 x6 xs) =
+    record { file = λ h. record { permanent = h; name = refl }; blocks = refl; date = refl }
 
 -- status, length and channel word set as by a close
 pub record Closed (n : ℕ) (e e′ : Entry) : Type 0 where
-  pub file : IsFile (getD e 1 0) (getD e 2 0) (getD e 3 0) e′
+  pub file : IsFile (nameOf e) e′
   pub blocks : blocks e′ ≡ n
   pub date : dateOf e′ ≡ dateOf e
 
-pub closed : (e : Entry) (n : ℕ) → Seven e → Closed n e (set (set (set e 0 1024) 4 n) 5 0)
+pub closed : (e : Entry) (n : ℕ) → Seven e → Closed n e (set (set (set e statusWord permanentStatus) lengthWord n) channelWord 0)
 unfolding kindOf
 closed e n (seven x0 x1 x2 x3 x4 x5 x6 xs) =
-    record { file = record { kept = refl; one = refl; two = refl; three = refl }; blocks = refl; date = refl }
+    record { file = record { permanent = refl; name = refl }; blocks = refl; date = refl }
 
 -- the length set
 pub record Grown (n : ℕ) (e e′ : Entry) : Type 0 where
   pub kind : kind e′ ≡ kind e
   pub blocks : blocks e′ ≡ n
 
-pub grown : (e : Entry) (n : ℕ) → Seven e → Grown n e (set e 4 n)
+pub grown : (e : Entry) (n : ℕ) → Seven e → Grown n e (set e lengthWord n)
 grown e n (seven x0 x1 x2 x3 x4 x5 x6 xs) = record { kind = refl; blocks = refl }
 
 -- names
-pub legal-short : (a b c : ℕ) → legalName a b c ≡ true → longName a b c ≡ false
+pub legal-short : (n : Name) → legal n ≡ true → longName n ≡ false
 unfolding legalName spells longName
-legal-short a b c h =
+legal-short n h =
+    let a = n .first in
+    let b = n .second in
+    let c = n .extension in
     let p = both (spells a && spells b && spells c) (legalText (textOf a b c)) h in
     let q = both (spells a && spells b) (spells c) (p .0) in
     let r = both (spells a) (spells b) (q .0) in
@@ -85,5 +92,5 @@ legal-short a b c h =
       le-ltb 63999 c (leb-true c 63999 (q .1)),
     )
 
-pub file-short : (a b c : ℕ) (e : Entry) → IsFile a b c e → longName a b c ≡ false → longNamed e ≡ false
-file-short a b c e f h = rw (f .one, f .two, f .three) h
+pub file-short : (n : Name) (e : Entry) → IsFile n e → longName n ≡ false → longNamed e ≡ false
+file-short n e f h = rw (f .name) h

@@ -1,6 +1,6 @@
--- Entries that rule 4 lets stand before a marker. A flag says whether a tentative entry stands directly before: if so, only an empty one may
--- follow, and at the end it may not be set. The slots of a readable segment are such entries, a marker and a rest; and such entries with a
--- marker after them are readable. What stands after some of them may be replaced by what may follow them.
+-- Entries that rule 4 lets stand before a marker. A flag says whether a tentative entry stands directly before: if so, only an empty
+-- one may follow, and at the end it may not be set. The slots of a readable segment are such entries, a marker and a rest; and such
+-- entries with a marker after them are readable. What stands after some of them may be replaced by what may follow them.
 use Prim.Native.Nat.{suc, _<_}
 use mathlib.Core.Path.{_≡_, refl, sym, ap, _∙_, subst}
 use mathlib.Core.Logic.{_⊎_, inl, inr}
@@ -11,7 +11,7 @@ use lib.ListN.{length}
 use Rattle.bools.proofs.Bools.{neither}
 use Rattle.meaning.specs.declared.Kind.{Kind}
 use Rattle.meaning.specs.declared.Kind.the-variants.{Tentative, Empty, Permanent, End, Unknown}
-use Rattle.meaning.specs.Kinds.{isTentative, isEmpty, isEnd}
+use Rattle.meaning.specs.Kinds.{isTentative, isEnd}
 use Rattle.meaning.specs.Words.{Entry, kind, upto}
 use Rattle.walks.specs.Scan.{badBy, longNamed, scanBad}
 use Rattle.laws.proofs.Touch.{by-rest}
@@ -29,13 +29,6 @@ Fine p (e ∷ es) = Okay p e × Fine (isTentative (kind e)) es
 abbrev pub flag : Bool → List Entry → Bool
 flag p [] = p
 flag p (e ∷ es) = flag (isTentative (kind e)) es
-
-pub empty-kind : (k : Kind) → isEmpty k ≡ true → k ≡ Empty
-empty-kind Tentative h = absurd (false≢true h)
-empty-kind Empty h = refl
-empty-kind Permanent h = absurd (false≢true h)
-empty-kind End h = absurd (false≢true h)
-empty-kind Unknown h = absurd (false≢true h)
 
 -- the slots of a readable segment
 by-okay : (k : Kind) (p b r : Bool) (e : Entry) → kind e ≡ k → longNamed e ≡ b → isEnd k ≡ false → badBy k p b r ≡ false → Okay p e
@@ -76,7 +69,8 @@ okay-end p e (free h) = rw h
 okay-end p e (used (inl h) i j) = rw h
 okay-end p e (used (inr h) i j) = rw h
 
-pub fine-slots : (es : List Entry) (p : Bool) (m : Entry) (rest : List Entry) → Fine p es → kind m ≡ End → scanBad p (es ++ m ∷ rest) ≡ false
+pub fine-slots : (es : List Entry) (p : Bool) (m : Entry) (rest : List Entry) → Fine p es → kind m ≡ End
+    → scanBad p (es ++ m ∷ rest) ≡ false
 unfolding scanBad
 fine-slots [] p m rest f h = rw h f
 fine-slots (e ∷ es) p m rest f h = okay-by p _ e (f .0) (fine-slots es _ m rest (f .1) h)

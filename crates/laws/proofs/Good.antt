@@ -1,6 +1,6 @@
 -- Good writes: what the writes of a request have in common. Each is to a slot that the request owns, that of an entry of a key
--- that it names or of the empty entry after one; the whole keeps the directory's shape, and each key comes from one key at
--- most. A request that carries something out makes one key go, and may make another that comes from it.
+-- that it names or of the empty entry after one; the whole keeps the directory's shape, and each key that may stand once
+-- comes from one key at most. A request that carries something out makes one key go, and may make another that comes from it.
 use Prim.Native.Nat.{ℕ, _+_, _*_}
 use mathlib.Core.Path.{_≡_, refl}
 use mathlib.Core.Logic.{_⊎_, ⊎-elim}
@@ -9,11 +9,13 @@ use mathlib.Core.List.{List, []}
 use Rattle.meaning.specs.declared.Kind.the-variants.{Empty}
 use Rattle.meaning.specs.Words.{slotWords, Entry, kind, blocks, dateOf, Row, rows}
 use Rattle.meaning.specs.Answers.{Write, write}
-use Rattle.laws.specs.Order.{Key, All}
+use Rattle.meaning.specs.declared.Key.{Key}
+use Rattle.meaning.specs.Keys.{holds, once}
+use Rattle.laws.specs.Order.{All}
 use Rattle.laws.proofs.Alls.{all-both}
 use Rattle.laws.proofs.Grid.{entryAt}
 use Rattle.laws.proofs.Writes.{Fit, edit, at-write, length-write, head-write}
-use Rattle.laws.proofs.Keys.{holds, same-key}
+use Rattle.laws.proofs.Keys.{same-key}
 use Rattle.laws.proofs.Touch.{Touch, keep}
 use Rattle.laws.proofs.Move.{Move}
 use Rattle.laws.proofs.Rows.{Stand}
@@ -33,7 +35,7 @@ pub record Good (d : List ℕ) (C : Key → Type 0) (ws : List Write) : Type 0 w
   pub own : All (Owns d C) ws
   pub fall : ℕ → ℕ
   pub move : Move C fall d (write d ws)
-  pub sources : (k : Key) → Source C d (write d ws) k
+  pub sources : (k : Key) → once k ≡ true → Source C d (write d ws) k
 
 -- the keys of a request that makes k go, and of one that makes l of it
 abbrev pub One : Key → Key → Type 0
@@ -50,24 +52,25 @@ pub record Gone (d : List ℕ) (k : Key) (ws : List Write) : Type 0 where
 pub record Made (d : List ℕ) (r : Row) (k l : Key) (n : ℕ) (ws : List Write) : Type 0 where
   pub good : Good d (Two k l) ws
   pub gone : All (After d (write d ws) k nothing) (rows d)
-  pub made : All (After d (write d ws) l (holds k)) (rows d)
+  pub made : once l ≡ true → All (After d (write d ws) l (holds k)) (rows d)
   pub length : blocks (entryAt (write d ws) (slotWords d) (r .at)) ≡ n
   pub date : dateOf (entryAt (write d ws) (slotWords d) (r .at)) ≡ dateOf (r .entry)
 
-pub gone-source : (d d′ : List ℕ) (k : Key) → All (After d d′ k nothing) (rows d) → (m : Key) → Source (One k) d d′ m
-gone-source d d′ k a m = go (same-key m k)
+pub gone-source : (d d′ : List ℕ) (k : Key) → All (After d d′ k nothing) (rows d) → (m : Key) → once m ≡ true
+    → Source (One k) d d′ m
+gone-source d d′ k a m o = go (same-key m k)
   where
     go : Dec (m ≡ k) → Source (One k) d d′ m
     go (yes p) = rw p (nowhere a)
     go (no p) = other p
 
-pub made-source : (d d′ : List ℕ) (k l : Key) → All (After d d′ k nothing) (rows d) → All (After d d′ l (holds k)) (rows d)
-    → (m : Key) → Source (Two k l) d d′ m
-made-source d d′ k l a b m = go (same-key m k) (same-key m l)
+pub made-source : (d d′ : List ℕ) (k l : Key) → once k ≡ true → All (After d d′ k nothing) (rows d)
+    → (once l ≡ true → All (After d d′ l (holds k)) (rows d)) → (m : Key) → once m ≡ true → Source (Two k l) d d′ m
+made-source d d′ k l one a b m o = go (same-key m k) (same-key m l)
   where
     go : Dec (m ≡ k) → Dec (m ≡ l) → Source (Two k l) d d′ m
     go (yes p) q = rw p (nowhere a)
-    go (no p) (yes q) = rw q (from k b)
+    go (no p) (yes q) = rw q (from k one (b (rw q at o)))
     go (no p) (no q) = other (⊎-elim p q)
 
 module _ (d : List ℕ) (st : All (Stand d) (rows d)) where
@@ -81,7 +84,7 @@ module _ (d : List ℕ) (st : All (Stand d) (rows d)) where
   pub good : (C : Key → Type 0) (ws : List Write) → All (Fit w) ws → All (Owns d C) ws
       → (δ : ℕ → ℕ) → ((s : ℕ) → δ (512 * s + 5) ≡ 0)
       → ((p : ℕ) → Touch C (δ p) (f p) (edit p (f p) ws) × (blocks (edit p (f p) ws) + δ (p + w) ≡ blocks (f p) + δ p))
-      → ((k : Key) → Source C d (write d ws) k) → Good d C ws
+      → ((k : Key) → once k ≡ true → Source C d (write d ws) k) → Good d C ws
   good C ws fit own δ start touch t =
       record {
         fit = fit;
@@ -115,4 +118,4 @@ module _ (d : List ℕ) (st : All (Stand d) (rows d)) where
   unfolding edit
   nothing-good C =
       good C [] tt tt (λ p. 0) (λ s. refl) (λ p. (keep refl refl, refl))
-      (λ k. from k (after-writes [] tt k (holds k) (Stand d) st (λ x s y. refl)))
+      (λ k o. from k o (after-writes [] tt k (holds k) (Stand d) st (λ x s y. refl)))

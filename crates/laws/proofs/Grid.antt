@@ -69,13 +69,13 @@ tri a b =
       | no h ↦ elim (decLt b a) [ yes g ↦ inr (inr g) | no g ↦ inr (inl (omega arith)) ]
     ]
 
-abbrev pub Apart : ℕ → ℕ → ℕ → Type 0
-Apart w p q = (p + w ≤ q) ⊎ (q + w ≤ p)
+abbrev pub SlotsApart : ℕ → ℕ → ℕ → Type 0
+SlotsApart w p q = (p + w ≤ q) ⊎ (q + w ≤ p)
 
-pub far : (w p q : ℕ) → OnGrid w p → OnGrid w q → (p ≡ q) ⊎ Apart w p q
+pub far : (w p q : ℕ) → OnGrid w p → OnGrid w q → (p ≡ q) ⊎ SlotsApart w p q
 far w p q x y = segs (tri (x .seg) (y .seg))
   where
-    same : x .seg ≡ y .seg → (x .slot < y .slot) ⊎ ((x .slot ≡ y .slot) ⊎ (y .slot < x .slot)) → (p ≡ q) ⊎ Apart w p q
+    same : x .seg ≡ y .seg → (x .slot < y .slot) ⊎ ((x .slot ≡ y .slot) ⊎ (y .slot < x .slot)) → (p ≡ q) ⊎ SlotsApart w p q
     same e (inl h) =
         let l : suc (x .slot) * w ≤ y .slot * w = mul-le-mul-right w h in
         inr (inl (omega (arith, x .place, y .place)))
@@ -84,7 +84,7 @@ far w p q x y = segs (tri (x .seg) (y .seg))
         let l : suc (y .slot) * w ≤ x .slot * w = mul-le-mul-right w h in
         inr (inr (omega (arith, x .place, y .place)))
 
-    segs : (x .seg < y .seg) ⊎ ((x .seg ≡ y .seg) ⊎ (y .seg < x .seg)) → (p ≡ q) ⊎ Apart w p q
+    segs : (x .seg < y .seg) ⊎ ((x .seg ≡ y .seg) ⊎ (y .seg < x .seg)) → (p ≡ q) ⊎ SlotsApart w p q
     segs (inl h) = inr (inl (omega (arith, x .fits, x .place, y .place)))
     segs (inr (inl h)) = same h (tri (x .slot) (y .slot))
     segs (inr (inr h)) = inr (inr (omega (arith, y .fits, x .place, y .place)))
@@ -103,8 +103,8 @@ placed-from (suc n) w s k h =
       rw e (placed-from n w s (suc k) (omega arith)),
     )
 
-pub placed : (w s : ℕ) → All (Placed w (s - 1)) (gridOf w s)
-placed w s =
+pub grid-placed : (w s : ℕ) → All (Placed w (s - 1)) (gridOf w s)
+grid-placed w s =
     let l = div-mul-le-self 507 w in
     let e : 512 * (s - 1) + 5 + 0 * w ≡ 512 * (s - 1) + 5 = omega arith in
     rw e at (placed-from (slotCount w) w (s - 1) 0 (omega arith))

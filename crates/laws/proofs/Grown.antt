@@ -3,29 +3,29 @@
 -- length are at most V. By one induction over a segment's slots, then over the chain.
 use Prim.Native.Nat.{ℕ, zero, suc, _+_, _*_, _-_, _≤_, _<_}
 use mathlib.Core.Path.{_≡_, refl, sym, ap, _∙_}
-use mathlib.Core.Bool.{Bool, true, false, cond, _||_, true≢false}
+use mathlib.Core.Bool.{Bool, true, false, cond, true≢false}
 use mathlib.Core.List.{List, [], _∷_, _++_, map}
 use mathlib.Core.Option.{some}
 use native.Mathlib.Omega.{arith}
 use lib.ListN.{length, getD}
-use lib.Dec.{eqb}
-use borrow.Author.Tests.{eqb-true}
-use Rattle.bools.proofs.Bools.{both}
-use Rattle.meaning.specs.declared.Kind.{Kind}
 use Rattle.meaning.specs.declared.Kind.the-variants.{Tentative}
 use Rattle.meaning.specs.Kinds.{isTentative, isEnd}
-use Rattle.meaning.specs.Words.{segment, firstOf, firstData, slotWords, slotCount, Entry, lengthWord, kind, blocks, upto, entries, total, chain}
+use Rattle.meaning.specs.Words.{segment, firstOf, firstData, slotWords, slotCount, Entry, lengthWord, kind, blocks, upto, entries, total}
+use Rattle.meaning.specs.Words.{chain}
 use Rattle.meaning.specs.Words.{Row, rowsIn, segmentRows, rowsOf, rows, entriesOf, allEntries}
-use Rattle.meaning.specs.Sound.{filled, fault}
-use Rattle.meaning.specs.Answers.{find, tentativeOn, openOn}
-use Rattle.walks.specs.Scan.{badBy, longNamed, scanBad}
-use Rattle.laws.specs.Order.{channel, All}
-use Rattle.laws.proofs.Alls.{all-map, all-append}
-use Rattle.laws.proofs.Keys.{holds, is-open}
-use Rattle.laws.proofs.Grid.{grid, gridOf, entryAt, word-at, slots-grid}
+use Rattle.meaning.specs.Sound.{fault}
+use Rattle.meaning.specs.Answers.{find, openOn}
+use Rattle.walks.specs.Scan.{longNamed, scanBad}
+use Rattle.meaning.specs.declared.Key.the-variants.{Open}
+use Rattle.meaning.specs.Keys.{holds}
+use Rattle.laws.specs.Order.{All}
+use Rattle.laws.proofs.Alls.{all-append}
+use Rattle.laws.proofs.Keys.{is-open}
+use Rattle.laws.proofs.Grid.{grid, entryAt, word-at, slots-grid}
 use Rattle.laws.proofs.Rule5.{rule1-holds}
-use Rattle.laws.proofs.Soundness.{Readable, Sound, sound, total-append, data-blocks}
+use Rattle.laws.proofs.Soundness.{Readable, sound, total-append, data-blocks}
 use Rattle.laws.proofs.Touch.{by-rest}
+use Rattle.laws.proofs.Blocks.{Lies, rows-lie}
 use Rattle.laws.proofs.Rows.{Stand, standing, by-true, find-some}
 
 -- a tentative entry and the one after it are no longer than t
@@ -62,7 +62,8 @@ module _ (d : List ℕ) where
       go : (x : Bool) → isEnd (kind (f a)) ≡ x
           → (scanBad (isTentative (kind (f a))) (map f (grid n w (a + w))) ≡ false
           → All (Weighs d (total after)) (rowsIn w s (j + 1) (a + w) (b + blocks (f a)) after))
-          → All (Weighs d (total (cond (isEnd (kind (f a))) [] (f a ∷ after)))) (rowsIn w s j a b (cond (isEnd (kind (f a))) [] (f a ∷ after)))
+          → All (Weighs d (total (cond (isEnd (kind (f a))) [] (f a ∷ after))))
+          (rowsIn w s j a b (cond (isEnd (kind (f a))) [] (f a ∷ after)))
       go true x i = rw x tt
       go false x i =
           let g = by-rest (kind (f a)) p (longNamed (f a)) _ x h in
@@ -90,13 +91,13 @@ pub record Closable (d : List ℕ) (r : Row) : Type 0 where
   pub fits : blocks (r .entry) + getD d (r .at + slotWords d + lengthWord) 0 ≤ 65535
 
 pub closable : (v : ℕ) (d : List ℕ) → fault v d ≡ 0 → (x : ℕ) (r : Row) → openOn d x ≡ some r → Closable d r
-unfolding openOn rows allEntries holds Weighs
+unfolding openOn rows allEntries Weighs
 closable v d h x r e =
     let s = sound v d h in
-    let l = find-some (Weighs d (total (allEntries d))) (tentativeOn x) (rows d) r (weigh-of d (chain d) (s .readable)) e in
-    let k = is-open x (r .entry) (l .1) .kept in
+    let l = find-some (Weighs d (total (allEntries d))) (holds (Open x)) (rows d) r (weigh-of d (chain d) (s .readable)) e in
+    let k = is-open x (r .entry) (l .1) .tentative in
     let m = l .0 k in
-    let t = find-some (Stand d) (tentativeOn x) (rows d) r (standing v d s) e .0 in
+    let t = find-some (Stand d) (holds (Open x)) (rows d) r (standing v d s) e .0 in
     let n = word-at d (slotWords d) (r .at + slotWords d) 4 (omega arith) in
     let b = data-blocks v d s in
     let q = rule1-holds v d (s .size) .wide in
@@ -107,58 +108,12 @@ closable v d h x r e =
       fits = omega arith;
     }
 
--- a row ends at n or before
-Ends : ℕ → Row → Type 0
-Ends n r = r .first + blocks (r .entry) ≤ n
-
-later : (m n : ℕ) → m ≤ n → (rs : List Row) → All (Ends m) rs → All (Ends n) rs
-unfolding Ends
-later m n l rs a = all-map (Ends m) (Ends n) (λ r h. omega arith) rs a
-
-ends-in : (w s k a b : ℕ) (es : List Entry) → All (Ends (b + total es)) (rowsIn w s k a b es)
-unfolding rowsIn total Ends
-ends-in w s k a b [] = tt
-ends-in w s k a b (e ∷ es) = (
-  omega arith,
-  later (b + blocks e + total es) (b + (blocks e + total es)) (omega arith) (rowsIn w s (k + 1) (a + w) (b + blocks e) es)
-      (ends-in w s (k + 1) (a + w) (b + blocks e) es),
-)
-
-filled-step : (v : ℕ) (d : List ℕ) (b s : ℕ) (ss : List ℕ) → filled v d b (s ∷ ss) ≡ true
-    → (firstOf (segment d s) ≡ b) × (filled v d (b + total (entries d s)) ss ≡ true)
-unfolding filled
-filled-step v d b s ss h =
-    let p = both (eqb (firstOf (segment d s)) b) (filled v d (b + total (entries d s)) ss) h in
-    (eqb-true (firstOf (segment d s)) b (p .0), p .1)
-
-filled-le : (v : ℕ) (d : List ℕ) (b : ℕ) (ss : List ℕ) → filled v d b ss ≡ true → b ≤ v
-filled-le v d b [] h = omega (arith, end h)
-  where
-    end : filled v d b [] ≡ true → b ≡ v
-    end g = unfold filled in eqb-true b v g
-filled-le v d b (s ∷ ss) h =
-    let p = filled-step v d b s ss h in
-    let l = filled-le v d (b + total (entries d s)) ss (p .1) in
-    omega arith
-
-ends-of : (v : ℕ) (d : List ℕ) (b : ℕ) (ss : List ℕ) → filled v d b ss ≡ true → All (Ends v) (rowsOf d ss)
-unfolding rowsOf segmentRows
-ends-of v d b [] h = tt
-ends-of v d b (s ∷ ss) h =
-    let p = filled-step v d b s ss h in
-    let l = filled-le v d (b + total (entries d s)) ss (p .1) in
-    all-append (Ends v) (segmentRows d s) (rowsOf d ss)
-    (later (firstOf (segment d s) + total (entries d s)) v (omega (arith, p .0)) (segmentRows d s)
-    (ends-in (slotWords d) s 1 (512 * (s - 1) + 5) (firstOf (segment d s)) (entries d s)))
-    (ends-of v d (b + total (entries d s)) ss (p .1))
-
--- so a row's first block and length fit a word
+-- a row's first block and length fit a word
 pub row-ends : (v : ℕ) (d : List ℕ) → fault v d ≡ 0 → (t : Entry → Bool) (r : Row) → find t (rows d) ≡ some r
     → r .first + blocks (r .entry) ≤ 65535
-unfolding rows Ends
 row-ends v d h t r e =
     let s = sound v d h in
-    let l = find-some (Ends v) t (rows d) r (ends-of v d (firstData d) (chain d) (s .full)) e .0 in
+    let l = find-some (Lies (firstData d) v) t (rows d) r (rows-lie v d s) e .0 .to in
     let q = rule1-holds v d (s .size) .wide in
     omega arith
 

@@ -1,5 +1,6 @@
--- Entries split in two, one of them with the tentative entry inserted. The split keeps a tentative entry with the area after it, so that both
--- halves are fine by themselves; and the halves joined are the entries with the tentative one inserted, whichever half has it.
+-- Entries split in two, one of them with the tentative entry inserted. The split keeps a tentative entry with the area after it, so
+-- that both halves are fine by themselves; and the halves joined are the entries with the tentative one inserted, whichever half has
+-- it.
 use Prim.Native.Nat.{ℕ, suc, _+_, _-_, _/_, _≤_, _<_}
 use mathlib.Core.Path.{_≡_, refl, sym, ap, _∙_, subst}
 use mathlib.Core.Bool.{Bool, true, false, cond, false≢true}
@@ -11,7 +12,7 @@ use lib.Dec.{eqb, ltb}
 use borrow.Author.Tests.{ltb-true, ltb-false}
 use Rattle.meaning.specs.declared.Kind.the-variants.{Empty}
 use Rattle.meaning.specs.Words.{Entry, lengthWord, kind, blocks, total}
-use Rattle.meaning.specs.Requests.{entryOf}
+use Rattle.meaning.specs.Requests.{emptyEntry}
 use Rattle.meaning.specs.Enter.{inserted, endsTentative, kept}
 use Rattle.laws.proofs.Alls.{all-left, all-right}
 use Rattle.laws.proofs.Soundness.{total-append}
@@ -65,10 +66,11 @@ parted es f = go (endsTentative (take (length es / 2) es)) refl
 
 module _ (w : ℕ) (new : Entry) (n cost : ℕ) where
   abbrev g : List Entry
-  g = cond (eqb cost 2) (entryOf w 512 0 0 0 0 0 0 ∷ []) []
+  g = cond (eqb cost 2) (emptyEntry w 0 ∷ []) []
 
   -- the tentative entry inserted in the lower part, and in the upper
-  inserted-low : (h k : ℕ) (es : List Entry) → k < h → h ≤ length es → inserted w new n cost k (take h es) ++ drop h es ≡ inserted w new n cost k es
+  inserted-low : (h k : ℕ) (es : List Entry) → k < h → h ≤ length es
+      → inserted w new n cost k (take h es) ++ drop h es ≡ inserted w new n cost k es
   unfolding inserted
   inserted-low h k es l i =
       let e = length-take-le h es i in
@@ -93,11 +95,13 @@ module _ (w : ℕ) (new : Entry) (n cost : ℕ) where
       )
 
   -- the last entry is tentative if it was
-  inserted-flag : (k : ℕ) (es : List Entry) → k < length es → kind (getD es k []) ≡ Empty → flag false (inserted w new n cost k es) ≡ flag false es
+  inserted-flag : (k : ℕ) (es : List Entry) → k < length es → kind (getD es k []) ≡ Empty
+      → flag false (inserted w new n cost k es) ≡ flag false es
   unfolding inserted
   inserted-flag k es l e =
       flag-append (take k es ++ g) (new ∷ set (getD es k []) lengthWord (blocks (getD es k []) - n) ∷ drop (suc k) es) false
-      ∙ ap (λ (z : Bool). flag z (drop (suc k) es)) (rw (getD-set-other (getD es k []) lengthWord 0 (blocks (getD es k []) - n) 0 (λ q. omega arith)))
+      ∙ ap (λ (z : Bool). flag z (drop (suc k) es))
+      (rw (getD-set-other (getD es k []) lengthWord 0 (blocks (getD es k []) - n) 0 (λ q. omega arith)))
       ∙ sym (ap (flag false) (split-at es k [] l) ∙ flag-append (take k es) (getD es k [] ∷ drop (suc k) es) false)
 
 -- both halves
@@ -123,9 +127,9 @@ module _ (w : ℕ) (new : Entry) (n at cost k : ℕ) (es : List Entry) (inside :
   pa = parted es fine
 
   -- from the halves joined
-  made : (lower upper : List Entry) → lower ++ upper ≡ out → flag false lower ≡ false → total lower ≡ total (take h es)
+  in-halves : (lower upper : List Entry) → lower ++ upper ≡ out → flag false lower ≡ false → total lower ≡ total (take h es)
       → length lower ≤ h + cost → length upper + h ≤ length es + cost → Halves w h cost es lower upper out
-  made lower upper e c t l u =
+  in-halves lower upper e c t l u =
       record {
         joined = e;
         fine-lower = fine-before lower upper false f c;
@@ -166,7 +170,7 @@ module _ (w : ℕ) (new : Entry) (n at cost k : ℕ) (es : List Entry) (inside :
           let t4 = ap total e in
           let n1 = length-append lower (drop h es) in
           let n2 = ap length e in
-          made lower (drop h es) e
+          in-halves lower (drop h es) e
           (inserted-flag w new n cost k (take h es) (omega (arith, l1)) (rw (getD-take h es k [] l) area) ∙ pa .calm)
           (omega (arith, ad .sum))
           (omega (arith, ad .long, l2, pa .inside))
@@ -177,4 +181,4 @@ module _ (w : ℕ) (new : Entry) (n at cost k : ℕ) (es : List Entry) (inside :
           let e = inserted-high w new n cost h k es l in
           let n1 = length-append (take h es) upper in
           let n2 = ap length e in
-          made (take h es) upper e (pa .calm) refl (omega (arith, l1)) (omega (arith, ad .long, l1))
+          in-halves (take h es) upper e (pa .calm) refl (omega (arith, l1)) (omega (arith, ad .long, l1))

@@ -1,6 +1,6 @@
--- The tentative entry inserted before an area, on lists of entries. Fine entries stay fine, since the area stands after the new entry and, after
--- a tentative one, an empty entry of length 0 stands before it; their blocks stay as many; and the new one, where the area began, is the one
--- more among the living. Where the entries are split in two, the halves joined are the same entries.
+-- The tentative entry inserted before an area, on lists of entries. Fine entries stay fine, since the area stands after the new entry
+-- and, after a tentative one, an empty entry of length 0 stands before it; their blocks stay as many; and the new one, where the area
+-- began, is the one more among the living. Where the entries are split in two, the halves joined are the same entries.
 use Prim.Native.Nat.{ℕ, suc, _+_, _-_, _≤_}
 use mathlib.Core.Path.{_≡_, refl, sym, _∙_, subst}
 use mathlib.Core.Logic.{inr}
@@ -14,7 +14,7 @@ use lib.Dec.{eqb}
 use Rattle.meaning.specs.declared.Kind.the-variants.{Tentative, Empty}
 use Rattle.meaning.specs.Kinds.{kindOf}
 use Rattle.meaning.specs.Words.{Entry, lengthWord, kind, blocks, total}
-use Rattle.meaning.specs.Requests.{entryOf}
+use Rattle.meaning.specs.Requests.{entryOf, emptyEntry}
 use Rattle.meaning.specs.Enter.{costAfter, inserted}
 use Rattle.walks.specs.Scan.{longNamed}
 use Rattle.laws.proofs.Alls.{all-append, all-left, all-right}
@@ -33,16 +33,13 @@ pub record New (w n : ℕ) (e : Entry) : Type 0 where
   pub blocks : blocks e ≡ n
 
 -- the empty entry of length 0 that stands before it, after a tentative one
-abbrev blank : ℕ → Entry
-blank w = entryOf w 512 0 0 0 0 0 0
-
 abbrev gap : ℕ → Bool → List Entry
-gap w p = cond p (blank w ∷ []) []
+gap w p = cond p (emptyEntry w 0 ∷ []) []
 
 record Blank (w : ℕ) : Type 0 where
-  kind : kind (blank w) ≡ Empty
-  wide : length (blank w) ≡ w
-  blocks : blocks (blank w) ≡ 0
+  kind : kind (emptyEntry w 0) ≡ Empty
+  wide : length (emptyEntry w 0) ≡ w
+  blocks : blocks (emptyEntry w 0) ≡ 0
 
 blank-is : (w : ℕ) → 7 ≤ w → Blank w
 unfolding entryOf kindOf
@@ -64,7 +61,7 @@ behind w h true l =
       fine = λ f. (free (e .kind), rw (e .kind) f);
       wide = λ a. (e .wide, a);
       sum = omega (arith, e .blocks);
-      living = λ b. living-area b (blank w) l (rw (e .kind)) ∙ (rw (e .blocks, add-zero b));
+      living = λ b. living-area b (emptyEntry w 0) l (rw (e .kind)) ∙ (rw (e .blocks, add-zero b));
       long = omega arith;
     }
 behind w h false l = record { fine = λ f. f; wide = λ a. a; sum = refl; living = λ b. refl; long = omega arith }
@@ -96,17 +93,17 @@ module _ (w n : ℕ) (enough : 7 ≤ w) (new : Entry) (nw : New w n new) where
     abbrev tail : List Entry
     tail = new ∷ x′ ∷ ys
 
-    grown : Grown (blocks x - n) x x′
-    grown = resized w enough x (blocks x - n) lx
+    lessened : Grown (blocks x - n) x x′
+    lessened = resized w enough x (blocks x - n) lx
 
     kx′ : kind x′ ≡ Empty
-    kx′ = grown .kind ∙ kx
+    kx′ = lessened .kind ∙ kx
 
     tail-living : (b : ℕ) → living b tail ≡ liveAt b new ∷ living (b + blocks x) ys
     tail-living b =
         let e : b + n + (blocks x - n) ≡ b + blocks x = omega arith in
         living-other b new (x′ ∷ ys) (rw (nw .tentative))
-        ∙ (rw (nw .blocks, living-area (b + n) x′ ys (rw kx′), grown .blocks, e))
+        ∙ (rw (nw .blocks, living-area (b + n) x′ ys (rw kx′), lessened .blocks, e))
 
     bh : Behind w p tail
     bh = behind w enough p tail
@@ -116,14 +113,16 @@ module _ (w n : ℕ) (enough : 7 ≤ w) (new : Entry) (nw : New w n new) where
     unfolding total
     added-here f a =
         record {
-          fine = fine-with xs (x ∷ ys) (gap w p ++ tail) false f (bh .fine (used (inr (nw .tentative)) refl (nw .short), (free kx′, rw kx′ rest)));
+          fine =
+              fine-with xs (x ∷ ys) (gap w p ++ tail) false f
+              (bh .fine (used (inr (nw .tentative)) refl (nw .short), (free kx′, rw kx′ rest)));
           wide =
               all-append (Words w) xs (gap w p ++ tail) (all-left (Words w) xs (x ∷ ys) a)
               (bh .wide (nw .wide, (length-set x lengthWord (blocks x - n) ∙ lx, all-right (Words w) xs (x ∷ ys) a .1)));
           sum =
               let t1 = total-append xs (gap w p ++ tail) in
               let t2 = total-append xs (x ∷ ys) in
-              omega (arith, bh .sum, nw .blocks, grown .blocks);
+              omega (arith, bh .sum, nw .blocks, lessened .blocks);
           long =
               let l1 = length-append xs (gap w p ++ tail) in
               let l2 = length-append xs (x ∷ ys) in
@@ -147,7 +146,7 @@ module _ (w n : ℕ) (enough : 7 ≤ w) (new : Entry) (nw : New w n new) where
         rw (take-append-seam xs (x ∷ ys), getD-append-seam xs x ys [], drop-past xs x ys, gap-is p)
         (append-assoc xs (gap w p) tail)
       where
-        gap-is : (q : Bool) → cond (eqb (costAfter q) 2) (blank w ∷ []) [] ≡ gap w q
+        gap-is : (q : Bool) → cond (eqb (costAfter q) 2) (emptyEntry w 0 ∷ []) [] ≡ gap w q
         gap-is true = refl
         gap-is false = refl
 

@@ -1,6 +1,6 @@
--- A change that keeps the shape keeps a directory sound, if each key comes afterwards from one key at most: it is found where
--- that was, with the entry read anew and the first block unchanged. A key that the change does not name is found as before, row
--- for row.
+-- A change that keeps the shape keeps a directory sound, if each key that may stand once comes afterwards from one such key at most: it
+-- is found where that was, with the entry read anew and the first block unchanged. A key that the change does not name is found as
+-- before, row for row.
 use Prim.Native.Nat.{ℕ, _-_, _≤_}
 use mathlib.Core.Path.{_≡_, refl, sym, _∙_, subst}
 use mathlib.Core.Bool.{Bool, true, false, false≢true}
@@ -10,9 +10,11 @@ use native.Mathlib.Omega.{arith}
 use Rattle.bools.proofs.Bools.{never}
 use Rattle.meaning.specs.Words.{slotWords, Entry, chain, Row, rows, allEntries}
 use Rattle.meaning.specs.Answers.{find}
-use Rattle.laws.specs.Order.{Key, All}
+use Rattle.meaning.specs.declared.Key.{Key}
+use Rattle.meaning.specs.Keys.{holds, once}
+use Rattle.laws.specs.Order.{All}
 use Rattle.laws.proofs.Alls.{all-map}
-use Rattle.laws.proofs.Keys.{holds, one-key, empty-holds, count}
+use Rattle.laws.proofs.Keys.{one-key, empty-holds, count}
 use Rattle.laws.proofs.Grid.{entryAt}
 use Rattle.laws.proofs.Soundness.{Sound}
 use Rattle.laws.proofs.Touch.{Touch, keep, area, gone, made, live-still, shifted}
@@ -29,30 +31,30 @@ nothing e = false
 -- where a key comes from: it is none of C and stays; from one key; from nowhere
 pub data Source (C : Key → Type 0) (d d′ : List ℕ) (k : Key) : Type 0 where
   other : (C k → ⊥) → Source C d d′ k
-  from : (u : Key) → All (After d d′ k (holds u)) (rows d) → Source C d d′ k
+  from : (u : Key) → once u ≡ true → All (After d d′ k (holds u)) (rows d) → Source C d d′ k
   nowhere : All (After d d′ k nothing) (rows d) → Source C d d′ k
 
 -- for a key that is not of C the slot is the same, or the key is neither the one's nor the other's
-data Alike (k : Key) (x : ℕ) (e e′ : Entry) : Type 0 where
-  equal : e′ ≡ e → x ≡ 0 → Alike k x e e′
-  neither : holds k e ≡ false → holds k e′ ≡ false → Alike k x e e′
+data Beside (k : Key) (x : ℕ) (e e′ : Entry) : Type 0 where
+  equal : e′ ≡ e → x ≡ 0 → Beside k x e e′
+  neither : holds k e ≡ false → holds k e′ ≡ false → Beside k x e e′
 
 not-of : (C : Key → Type 0) (k l : Key) (e : Entry) → (C k → ⊥) → C l → holds l e ≡ true → holds k e ≡ false
 not-of C k l e out c h = never (holds k e) (λ g. out (subst C (one-key l k e h g) c))
 
-alike : {C : Key → Type 0} {x : ℕ} {e e′ : Entry} (k : Key) → (C k → ⊥) → Touch C x e e′ → Alike k x e e′
-alike k out (keep h z) = equal h z
-alike {e = e} {e′ = e′} k out (area h g) = neither (empty-holds k e h) (empty-holds k e′ g)
-alike {C} {e = e} {e′ = e′} k out (gone l c h g z) = neither (not-of C k l e out c h) (empty-holds k e′ g)
-alike {C} {e = e} {e′ = e′} k out (made l m c h c′ h′ g b z) = neither (not-of C k l e out c h) (not-of C k m e′ out c′ h′)
+beside : {C : Key → Type 0} {x : ℕ} {e e′ : Entry} (k : Key) → (C k → ⊥) → Touch C x e e′ → Beside k x e e′
+beside k out (keep h z) = equal h z
+beside {e = e} {e′ = e′} k out (area h g) = neither (empty-holds k e h) (empty-holds k e′ g)
+beside {C} {e = e} {e′ = e′} k out (gone l c h g z) = neither (not-of C k l e out c h) (empty-holds k e′ g)
+beside {C} {e = e} {e′ = e′} k out (made l m c h c′ h′ g b z) = neither (not-of C k l e out c h) (not-of C k m e′ out c′ h′)
 
-alike-holds : {k : Key} {x : ℕ} {e e′ : Entry} → Alike k x e e′ → holds k e′ ≡ holds k e
-alike-holds (equal h z) = rw h
-alike-holds (neither g g′) = rw (g, g′)
+beside-holds : {k : Key} {x : ℕ} {e e′ : Entry} → Beside k x e e′ → holds k e′ ≡ holds k e
+beside-holds (equal h z) = rw h
+beside-holds (neither g g′) = rw (g, g′)
 
-alike-held : {k : Key} {x : ℕ} {e e′ : Entry} → Alike k x e e′ → holds k e ≡ true → e′ ≡ e
-alike-held (equal h z) t = h
-alike-held (neither g g′) t = absurd (false≢true (sym g ∙ t))
+beside-held : {k : Key} {x : ℕ} {e e′ : Entry} → Beside k x e e′ → holds k e ≡ true → e′ ≡ e
+beside-held (equal h z) t = h
+beside-held (neither g g′) t = absurd (false≢true (sym g ∙ t))
 
 count-nothing : (es : List Entry) → count nothing es ≡ 0
 unfolding count
@@ -77,19 +79,19 @@ module _ (v : ℕ) (C : Key → Type 0) (δ : ℕ → ℕ) (d d′ : List ℕ) (
   still-after k out = all-map (Stand d) (After d d′ k (holds k)) same (rows d) (standing v d s)
     where
       same : (r : Row) → Stand d r → After d d′ k (holds k) r
-      same r x = rw (x .is) (alike-holds (alike k out (m .at (r .at) (x .slot .on) .touch)))
+      same r x = rw (x .is) (beside-holds (beside k out (m .at (r .at) (x .slot .on) .touch)))
 
   tests : (k : Key) (u : Entry → Bool) → All (After d d′ k u) (rows d) → count u (map entry-of (rows d)) ≤ 1
       → count (holds k) (allEntries d′) ≤ 1
   tests k u a l =
       rw (← (entries-rows d′), rows-moved C δ d d′ m, count-tied (holds k) u (shifted δ f′) (rows d) a) l
 
-  once : (k : Key) → Source C d d′ k → count (holds k) (allEntries d′) ≤ 1
-  once k (other out) = tests k (holds k) (still-after k out) (few-rows v d s k)
-  once k (from u a) = tests k (holds u) a (few-rows v d s u)
-  once k (nowhere a) = tests k nothing a (let z = count-nothing (map entry-of (rows d)) in omega arith)
+  at-most-one : (k : Key) → once k ≡ true → Source C d d′ k → count (holds k) (allEntries d′) ≤ 1
+  at-most-one k o (other out) = tests k (holds k) (still-after k out) (few-rows v d s k o)
+  at-most-one k o (from u o′ a) = tests k (holds u) a (few-rows v d s u o′)
+  at-most-one k o (nowhere a) = tests k nothing a (let z = count-nothing (map entry-of (rows d)) in omega arith)
 
-  pub stays-sound : ((k : Key) → Source C d d′ k) → Sound v d′
+  pub stays-sound : ((k : Key) → once k ≡ true → Source C d d′ k) → Sound v d′
   stays-sound t =
       record {
         size = bad1-same C δ d d′ m v ∙ s .size;
@@ -97,7 +99,7 @@ module _ (v : ℕ) (C : Key → Type 0) (δ : ℕ → ℕ) (d d′ : List ℕ) (
         links = linked-same C δ d d′ m ∙ s .links;
         readable = rw (chain-same C δ d d′ m) (readable-kept C δ d d′ m (chain d) (s .readable));
         full = filled-same C δ d d′ m v (s .readable) ∙ s .full;
-        keys = λ k. once k (t k);
+        keys = λ k o. at-most-one k o (t k o);
       }
 
   -- where a key is found afterwards
@@ -123,7 +125,7 @@ module _ (v : ℕ) (C : Key → Type 0) (δ : ℕ → ℕ) (d d′ : List ℕ) (
   reread-same k out none e = refl
   reread-same k out (some r) e =
       let x = find-some (Stand d) (holds k) (rows d) r (standing v d s) e in
-      let y = alike-held (alike k out (m .at (r .at) (x .0 .slot .on) .touch)) (rw (x .0 .is) at (x .1)) in
+      let y = beside-held (beside k out (m .at (r .at) (x .0 .slot .on) .touch)) (rw (x .0 .is) at (x .1)) in
       let z : entryAt d′ (slotWords d) (r .at) ≡ r .entry = y ∙ sym (x .0 .is) in
       rw z
 

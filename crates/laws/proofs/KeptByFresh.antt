@@ -1,5 +1,5 @@
--- A fresh start that succeeds leaves a sound directory: one segment in use, with one empty entry that has all data blocks, and
--- the marker after it. The words that the rules look at are read off once; the rules follow from them for any list that has
+-- A fresh start that succeeds leaves a sound directory without a file: one segment in use, with one empty entry that has all data
+-- blocks, and the marker after it. The words that the rules look at are read off once; the rules follow from them for any list that has
 -- these words.
 use Prim.Native.Nat.{ℕ, zero, suc, _+_, _*_, _-_, _≤_, _<_}
 use native.Mathlib.Nat.{le-div-iff-mul-le}
@@ -7,24 +7,31 @@ use native.Mathlib.Omega.{arith}
 use mathlib.Core.Path.{_≡_, refl, ap, _∙_}
 use mathlib.Core.Bool.{Bool, true, false}
 use mathlib.Core.List.{List, [], _∷_, _++_, map}
+use mathlib.Core.Option.{none}
 use lib.ListN.{length, getD, replicate, length-append, length-take, length-replicate, List·getD-append}
 use lib.Seq.{getD-take, getD-append-add, getD-at}
 use lib.Dec.{leb}
 use borrow.Author.Tests.{leb-true, eq-eqb}
 use Rattle.meaning.specs.declared.Kind.the-variants.{Empty, End}
-use Rattle.meaning.specs.Kinds.{kindOf}
+use Rattle.meaning.specs.Kinds.{emptyStatus, endStatus, kindOf}
 use Rattle.meaning.specs.Words.{segments, firstData, segment, highest, slotWords, slotCount, Entry, kind, upto, entries, total}
-use Rattle.meaning.specs.Words.{chainFrom, chain, entriesOf, allEntries}
-use Rattle.meaning.specs.Sound.{fault, bad1, filled}
-use Rattle.meaning.specs.Answers.{refuse, success}
-use Rattle.meaning.specs.Requests.{entryOf, flat, render, freshWords, fresh}
+use Rattle.meaning.specs.Words.{chainFrom, chain, rowsIn, segmentRows, rowsOf, rows, entriesOf, allEntries}
+use Rattle.meaning.specs.Sound.{bad1, filled}
+use Rattle.meaning.specs.Answers.{refuse, success, find, fileOf}
+use Rattle.meaning.specs.Requests.{entryOf, emptyEntry, flat, render, freshWords, fresh}
 use Rattle.walks.specs.Links.{linked}
 use Rattle.walks.specs.Scan.{scanBad}
+use Rattle.meaning.specs.declared.Name.{Name}
+use Rattle.meaning.specs.declared.Key.{Key}
+use Rattle.meaning.specs.declared.Key.the-variants.{File}
+use Rattle.meaning.specs.Keys.{holds, once}
 use Rattle.laws.specs.Sound.{Rule1, Rule2}
-use Rattle.laws.specs.Order.{Key, All}
+use Rattle.laws.specs.Order.{All}
 use Rattle.laws.proofs.Rule5.{rule1-holds, rule1-tested, rule2-tested}
-use Rattle.laws.proofs.Keys.{holds, empty-holds, count}
+use Rattle.laws.proofs.Keys.{empty-holds, count}
 use Rattle.laws.proofs.Grid.{entryAt, word-at, grid, slots-grid}
+use Rattle.laws.specs.Kept.{KeptByFresh}
+use Rattle.laws.proofs.Lookups.{lookup-seen}
 use Rattle.laws.proofs.Soundness.{slotsOf, Readable, Sound, faultless}
 
 -- the words that the rules look at, in a directory of N segments with E extra words
@@ -35,9 +42,9 @@ pub record Started (v N E : ℕ) (D : List ℕ) : Type 0 where
   pub highest : getD D 2 0 ≡ 1
   pub bytes : getD D 3 0 ≡ 2 * E
   pub first : getD D 4 0 ≡ 6 + 2 * N
-  pub status : getD D 5 0 ≡ 512
+  pub status : getD D 5 0 ≡ emptyStatus
   pub length : getD D 9 0 ≡ v - (6 + 2 * N)
-  pub marker : getD D (5 + (7 + E)) 0 ≡ 2048
+  pub marker : getD D (5 + (7 + E)) 0 ≡ endStatus
 
 -- read off
 module _ (v N E : ℕ) (least : 1 ≤ N) (most : E ≤ 16) where
@@ -45,13 +52,13 @@ module _ (v N E : ℕ) (least : 1 ≤ N) (most : E ≤ 16) where
   header = N ∷ 0 ∷ 1 ∷ 2 * E ∷ (6 + 2 * N) ∷ []
 
   abbrev entry : Entry
-  entry = entryOf (7 + E) 512 0 0 0 (v - (6 + 2 * N)) 0 0
+  entry = emptyEntry (7 + E) (v - (6 + 2 * N))
 
   abbrev started : List ℕ
   started = render header (entry ∷ []) ++ replicate (512 * (N - 1)) 0
 
   abbrev end : List ℕ
-  end = 2048 ∷ replicate 512 0
+  end = endStatus ∷ replicate 512 0
 
   entry-length : length entry ≡ 7 + E
   unfolding entryOf
@@ -75,12 +82,12 @@ module _ (v N E : ℕ) (least : 1 ≤ N) (most : E ≤ 16) where
       length-append (render header (entry ∷ [])) (replicate (512 * (N - 1)) 0)
       ∙ (rw (segment-length, length-replicate {A = ℕ} (512 * (N - 1)) 0) (omega arith))
 
-  marked : getD (render header (entry ∷ [])) (5 + (7 + E)) 0 ≡ 2048
+  marked : getD (render header (entry ∷ [])) (5 + (7 + E)) 0 ≡ endStatus
   unfolding render flat
   marked =
       getD-take 512 (header ++ (entry ++ end)) (5 + (7 + E)) 0 (omega arith)
       ∙ getD-append-add header (entry ++ end) (7 + E) 0
-      ∙ getD-at entry 2048 (replicate 512 0) 0 (7 + E) entry-length
+      ∙ getD-at entry endStatus (replicate 512 0) 0 (7 + E) entry-length
 
   is-started : Started v N E started
   unfolding render flat entryOf
@@ -204,9 +211,9 @@ module _ (v N E : ℕ) (D : List ℕ) (some : 1 ≤ N) (few : N ≤ 31) (most : 
         eq-eqb v v refl,
       )
 
-  keys : (k : Key) → count (holds k) (allEntries D) ≤ 1
+  keys : (k : Key) → once k ≡ true → count (holds k) (allEntries D) ≤ 1
   unfolding allEntries entriesOf count
-  keys k = rw (chained, entries-are, empty-holds k (entryAt D (7 + E) 5) empty-first) (omega arith)
+  keys k o = rw (chained, entries-are, empty-holds k (entryAt D (7 + E) 5) empty-first) (omega arith)
 
   started-sound : Sound v D
   started-sound =
@@ -219,18 +226,30 @@ module _ (v N E : ℕ) (D : List ℕ) (some : 1 ≤ N) (few : N ≤ 31) (most : 
         keys = keys;
       }
 
-pub kept-by-fresh : (v : ℕ) (d : List ℕ) (extra : ℕ) → fresh v d extra .answer .number ≡ 0 → fault v (fresh v d extra .words) ≡ 0
+  no-file : (n : Name) → fileOf D n ≡ none
+  unfolding fileOf rows rowsOf segmentRows rowsIn find
+  no-file n = rw (chained, entries-are, empty-holds (File n) (entryAt D (7 + E) 5) empty-first)
+
+  started-kept : KeptByFresh v D
+  started-kept =
+      let f = faultless v D started-sound in
+      record {
+        sound = f;
+        none = λ n l. rw (lookup-seen v D f n, l, no-file n);
+        illegal = λ n l. rw (lookup-seen v D f n, l);
+      }
+
+pub kept-by-fresh : (v : ℕ) (d : List ℕ) (extra : ℕ) → fresh v d extra .answer .number ≡ 0 → KeptByFresh v (fresh v d extra .words)
 unfolding fresh freshWords refuse success
 kept-by-fresh v d extra = go (bad1 v d) refl (leb extra 16) refl
   where
     go : (x : Bool) → bad1 v d ≡ x → (y : Bool) → leb extra 16 ≡ y → fresh v d extra .answer .number ≡ 0
-        → fault v (fresh v d extra .words) ≡ 0
+        → KeptByFresh v (fresh v d extra .words)
     go true i y j h = absurd (let z : 1 ≡ 0 = rw i at h in omega arith)
     go false i false j h = absurd (let z : 2 ≡ 0 = rw (i, j) at h in omega arith)
     go false i true j h =
         let r = rule1-holds v d i in
         let l = leb-true extra 16 j in
         rw (i, j)
-        (faultless v _
-        (started-sound v (segments d) extra _ (r .some) (r .few) l (r .room) (r .wide)
-        (is-started v (segments d) extra (r .some) l)))
+        (started-kept v (segments d) extra _ (r .some) (r .few) l (r .room) (r .wide)
+        (is-started v (segments d) extra (r .some) l))

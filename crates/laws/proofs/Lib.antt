@@ -12,6 +12,7 @@ pub mod Writes
 pub mod Touch
 pub mod Move
 pub mod Rows
+pub mod Blocks
 pub mod Keeps
 pub mod Entries
 pub mod Good

@@ -1,6 +1,6 @@
--- What is found in a directory, by first block and entry alone. The living entries are those that are not empty, each with its first block;
--- a key finds among the rows of a sound directory what it finds among the living. So where these stay, all is found as before; and where one
--- is added to them, every key that it does not have is found as before, and its own key, if nothing had it, finds it.
+-- What is found in a directory, by first block and entry alone. The living entries are those that are not empty, each with its first
+-- block; a key finds among the rows of a sound directory what it finds among the living. So where these stay, all is found as before;
+-- and where one is added to them, every key that it does not have is found as before, and its own key, if nothing had it, finds it.
 use Prim.Native.Nat.{ℕ, _+_, _≤_}
 use mathlib.Core.Path.{_≡_, refl, sym, ap, ap₂, _∙_}
 use mathlib.Core.Bool.{Bool, true, false, cond}
@@ -16,10 +16,11 @@ use Rattle.meaning.specs.Words.{Row, rowsIn, segmentRows, rowsOf, rows, entries
 use Rattle.meaning.specs.Sound.{filled}
 use Rattle.meaning.specs.Answers.{find}
 use Rattle.meaning.specs.Enter.{isArea}
-use Rattle.laws.specs.Order.{Key}
-use Rattle.laws.proofs.Keys.{holds, empty-holds, count}
+use Rattle.meaning.specs.declared.Key.{Key}
+use Rattle.meaning.specs.Keys.{holds}
+use Rattle.laws.proofs.Keys.{empty-holds, count}
 use Rattle.laws.proofs.Soundness.{Sound}
-use Rattle.laws.proofs.Fine.{empty-kind}
+use Rattle.walks.proofs.Told.{empty-kind}
 
 pub record Live : Type 0 where
   pub first : ℕ
@@ -91,7 +92,8 @@ rows-from v d b (s ∷ ss) h =
     let p = both (eqb (firstOf (segment d s)) b) (filled v d (b + total (entries d s)) ss) h in
     let e = eqb-true (firstOf (segment d s)) b (p .0) in
     rows-append (segmentRows d s) (rowsOf d ss)
-    ∙ ap₂ (λ (x y : List Live). x ++ y) (rows-in (slotWords d) s 1 _ (firstOf (segment d s)) (entries d s) ∙ ap (λ (x : ℕ). living x (entries d s)) e)
+    ∙ ap₂ (λ (x y : List Live). x ++ y)
+    (rows-in (slotWords d) s 1 _ (firstOf (segment d s)) (entries d s) ∙ ap (λ (x : ℕ). living x (entries d s)) e)
     (rows-from v d (b + total (entries d s)) ss (p .1))
     ∙ sym (living-append (entries d s) (entriesOf d ss) b)
 
@@ -106,7 +108,8 @@ seek-rows k (r ∷ rs) = go (isArea (r .entry)) refl (seek-rows k rs)
     test false i = i
 
     go : (z : Bool) → isArea (r .entry) ≡ z → Option·map face (find (holds k) rs) ≡ seek (holds k) (livingRows rs)
-        → Option·map face (cond (holds k (r .entry)) (some r) (find (holds k) rs)) ≡ seek (holds k) (cond z (livingRows rs) (face r ∷ livingRows rs))
+        → Option·map face (cond (holds k (r .entry)) (some r) (find (holds k) rs))
+        ≡ seek (holds k) (cond z (livingRows rs) (face r ∷ livingRows rs))
     go true z i = rw (empty-holds k (r .entry) (empty-kind (kind (r .entry)) z)) i
     go false z i = test (holds k (r .entry)) i
 
@@ -161,7 +164,8 @@ unfolding seek
 seek-beside t x [] ys h = rw h
 seek-beside t x (y ∷ xs) ys h = rw (seek-beside t x xs ys h)
 
-seek-there : (t : Entry → Bool) (x : Live) (xs ys : List Live) → t (x .entry) ≡ true → seek t (xs ++ ys) ≡ none → seek t (xs ++ x ∷ ys) ≡ some x
+seek-there : (t : Entry → Bool) (x : Live) (xs ys : List Live) → t (x .entry) ≡ true → seek t (xs ++ ys) ≡ none
+    → seek t (xs ++ x ∷ ys) ≡ some x
 unfolding seek
 seek-there t x [] ys h e = rw h
 seek-there t x (y ∷ xs) ys h e = go (t (y .entry)) (seek-there t x xs ys h) e

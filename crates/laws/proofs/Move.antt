@@ -12,9 +12,10 @@ use Rattle.meaning.specs.Words.{firstData, segment, linkOf, firstOf, highest, s
 use Rattle.meaning.specs.Words.{entries, total, chainFrom, chain, Row, segmentRows, rowsOf, rows}
 use Rattle.meaning.specs.Sound.{bad1, bad2, filled}
 use Rattle.walks.specs.Links.{linked}
-use Rattle.laws.specs.Order.{Key, All}
+use Rattle.meaning.specs.declared.Key.{Key}
+use Rattle.laws.specs.Order.{All}
 use Rattle.laws.proofs.Alls.{all-map}
-use Rattle.laws.proofs.Grid.{entryAt, gridOf, slots-grid, OnGrid, Placed, placed}
+use Rattle.laws.proofs.Grid.{entryAt, gridOf, slots-grid, OnGrid, Placed, grid-placed}
 use Rattle.laws.proofs.Soundness.{slotsOf, Readable}
 use Rattle.laws.proofs.Touch.{At, shifted, slots-kept, total-kept, rows-kept}
 
@@ -99,7 +100,7 @@ module _ (C : Key → Type 0) (δ : ℕ → ℕ) (d d′ : List ℕ) (m : Move C
   slots-after s = rw width-same (slots-grid w d′ s)
 
   touches : (s : ℕ) → All (At C δ w f f′) (gridOf w s)
-  touches s = all-map (Placed w (s - 1)) (At C δ w f f′) (λ p x. m .at p (x .on)) (gridOf w s) (placed w s)
+  touches s = all-map (Placed w (s - 1)) (At C δ w f f′) (λ p x. m .at p (x .on)) (gridOf w s) (grid-placed w s)
 
   pub readable-kept : (ss : List ℕ) → All (Readable d) ss → All (Readable d′) ss
   readable-kept [] a = tt

@@ -9,15 +9,20 @@ use mathlib.Core.Bool.{true, false}
 use mathlib.Core.List.{List, [], _∷_}
 use lib.ListN.{set}
 use Rattle.bools.proofs.Bools.{never}
+use Rattle.meaning.specs.declared.Name.{Name}
+use Rattle.meaning.specs.Kinds.{emptyStatus}
 use Rattle.meaning.specs.Words.{slotWords, Entry, statusWord, nameWord, name2Word, extensionWord, blocks, dateOf, Row, rows}
 use Rattle.meaning.specs.Sound.{longName}
 use Rattle.meaning.specs.Answers.{Write, put, write}
 use Rattle.meaning.specs.Requests.{emptying, renaming}
-use Rattle.laws.specs.Order.{Key, file, All}
+use Rattle.meaning.specs.declared.Key.{Key}
+use Rattle.meaning.specs.declared.Key.the-variants.{File}
+use Rattle.meaning.specs.Keys.{holds, once}
+use Rattle.laws.specs.Order.{All}
 use Rattle.laws.proofs.Alls.{all-map, all-both}
 use Rattle.laws.proofs.Grid.{entryAt, OnGrid}
 use Rattle.laws.proofs.Writes.{Fit, edit, sets, To, edit-to, edit-away, at-write}
-use Rattle.laws.proofs.Keys.{holds, IsFile, is-file, file-holds, empty-holds, other-key}
+use Rattle.laws.proofs.Keys.{IsFile, is-file, file-holds, empty-holds, other-key}
 use Rattle.laws.proofs.Touch.{Touch, keep, gone, made}
 use Rattle.laws.proofs.Rows.{Stand, Fails, Only}
 use Rattle.laws.proofs.Keeps.{After, nothing, Source}
@@ -46,11 +51,11 @@ module _ (d : List ℕ) (st : All (Stand d) (rows d)) where
         to
         within
 
-    here : edit (r .at) (f (r .at)) ws ≡ e
-    here = edit-to (r .at) (f (r .at)) ws to ∙ is
+    own-edit : edit (r .at) (f (r .at)) ws ≡ e
+    own-edit = edit-to (r .at) (f (r .at)) ws to ∙ is
 
-    written : entryAt (write d ws) w (r .at) ≡ e
-    written = at-write ws d w (r .at) fits (s .slot .on) ∙ here
+    entry-after : entryAt (write d ws) w (r .at) ≡ e
+    entry-after = at-write ws d w (r .at) fits (s .slot .on) ∙ own-edit
 
     away : (p : ℕ) → (r .at ≡ p → ⊥) → edit p (f p) ws ≡ f p
     away p n = edit-away p (r .at) (f p) ws to n
@@ -66,7 +71,7 @@ module _ (d : List ℕ) (st : All (Stand d) (rows d)) where
       where
         go : (x : Row) → Stand d x → Only (holds k) (r .at) x → Dec (r .at ≡ x .at)
             → holds k (edit (x .at) (f (x .at)) ws) ≡ false
-        go x t o (yes q) = rw (← q, here) g
+        go x t o (yes q) = rw (← q, own-edit) g
         go x t o (no q) = rw (away (x .at) q) (unique x t o q)
 
     key-made : (l : Key) → holds l e ≡ true → All (Fails (holds l)) (rows d) → All (After d (write d ws) l (holds k)) (rows d)
@@ -80,11 +85,11 @@ module _ (d : List ℕ) (st : All (Stand d) (rows d)) where
 
         go : (x : Row) → Stand d x → Only (holds k) (r .at) x → Fails (holds l) x → Dec (r .at ≡ x .at)
             → holds l (edit (x .at) (f (x .at)) ws) ≡ holds k (f (x .at))
-        go x t o b (yes q) = rw (← q, here, g, key-at)
+        go x t o b (yes q) = rw (← q, own-edit, g, key-at)
         go x t o b (no q) = rw (away (x .at) q, unique x t o q) (rw (t .is) at b)
 
     one-good : (C : Key → Type 0) → C k → Touch C 0 (f (r .at)) e → blocks e ≡ blocks (f (r .at))
-        → ((l : Key) → Source C d (write d ws) l) → Good d C ws
+        → ((l : Key) → once l ≡ true → Source C d (write d ws) l) → Good d C ws
     one-good C c t b source = good d st C ws fits owns (λ p. 0) (λ s. refl) (λ p. touched p (ℕ-discrete (r .at) p)) source
       where
         owns : All (Owns d C) ws
@@ -92,7 +97,7 @@ module _ (d : List ℕ) (st : All (Stand d) (rows d)) where
 
         touched : (p : ℕ) → Dec (r .at ≡ p)
             → Touch C 0 (f p) (edit p (f p) ws) × (blocks (edit p (f p) ws) + 0 ≡ blocks (f p) + 0)
-        touched p (yes q) = rw (← q, here) (t, ap (λ (x : ℕ). x + 0) b)
+        touched p (yes q) = rw (← q, own-edit) (t, ap (λ (x : ℕ). x + 0) b)
         touched p (no q) = rw (away p q) (keep refl refl, refl)
 
   -- delete and abandon
@@ -111,7 +116,7 @@ module _ (d : List ℕ) (st : All (Stand d) (rows d)) where
       }
     where
       ws : List Write
-      ws = put (r .at) statusWord 512 ∷ []
+      ws = put (r .at) statusWord emptyStatus ∷ []
 
       to : All (To (r .at)) ws
       to = (refl, tt)
@@ -120,42 +125,45 @@ module _ (d : List ℕ) (st : All (Stand d) (rows d)) where
       within = (omega arith, tt)
 
       e : Entry
-      e = set (f (r .at)) 0 512
+      e = set (f (r .at)) statusWord emptyStatus
 
       x : Cleared (f (r .at)) e
       x = cleared (f (r .at)) (slot-seven d (r .at) (s .slot))
 
   -- rename
-  pub giving : (r : Row) → Stand d r → (a b c a′ b′ c′ : ℕ) → holds (file a b c) (r .entry) ≡ true
-      → All (Only (holds (file a b c)) (r .at)) (rows d) → All (Fails (holds (file a′ b′ c′))) (rows d)
-      → (file a b c ≡ file a′ b′ c′ → ⊥) → longName a′ b′ c′ ≡ false
-      → Made d r (file a b c) (file a′ b′ c′) (blocks (r .entry)) (renaming r a′ b′ c′)
+  pub giving : (r : Row) → Stand d r → (old new : Name) → once (File old) ≡ true → holds (File old) (r .entry) ≡ true
+      → All (Only (holds (File old)) (r .at)) (rows d) → All (Fails (holds (File new))) (rows d)
+      → (File old ≡ File new → ⊥) → longName new ≡ false → Made d r (File old) (File new) (blocks (r .entry)) (renaming r new)
   unfolding renaming
-  giving r s a b c a′ b′ c′ h only free ne fine =
-      let g = key-gone r s k h only ws to within e refl (other-key k l e ne new) in
-      let m = key-made r s k h only ws to within e refl l new free in
-      let i = written r s k h only ws to within e refl in
+  giving r s old new one h only free ne fine =
+      let g = key-gone r s k h only ws to within e refl (other-key k l e ne has) in
+      let m = key-made r s k h only ws to within e refl l has free in
+      let i = entry-after r s k h only ws to within e refl in
       record {
         good =
             one-good r s k h only ws to within e refl (Two k l) (inl refl)
-            (made k l (inl refl) (key-at r s k h only ws to within e refl) (inr refl) new (x .kept) (file-short a′ b′ c′ e x fine)
+            (made k l (inl refl) (key-at r s k h only ws to within e refl) (inr refl) has (x .permanent) (file-short new e x fine)
             refl)
             (y .blocks)
-            (made-source d (write d ws) k l g m);
+            (made-source d (write d ws) k l one g (λ _. m));
         gone = g;
-        made = m;
+        made = λ _. m;
         length = ap blocks i ∙ y .blocks ∙ ap blocks (sym (s .is));
         date = ap dateOf i ∙ y .date ∙ ap dateOf (sym (s .is));
       }
     where
       k : Key
-      k = file a b c
+      k = File old
 
       l : Key
-      l = file a′ b′ c′
+      l = File new
 
       ws : List Write
-      ws = put (r .at) nameWord a′ ∷ put (r .at) name2Word b′ ∷ put (r .at) extensionWord c′ ∷ []
+      ws =
+          put (r .at) nameWord (new .first)
+          ∷ put (r .at) name2Word (new .second)
+          ∷ put (r .at) extensionWord (new .extension)
+          ∷ []
 
       to : All (To (r .at)) ws
       to = (refl, (refl, (refl, tt)))
@@ -164,13 +172,13 @@ module _ (d : List ℕ) (st : All (Stand d) (rows d)) where
       within = (omega arith, (omega arith, (omega arith, tt)))
 
       e : Entry
-      e = set (set (set (f (r .at)) 1 a′) 2 b′) 3 c′
+      e = set (set (set (f (r .at)) nameWord (new .first)) name2Word (new .second)) extensionWord (new .extension)
 
-      y : Renamed a′ b′ c′ (f (r .at)) e
-      y = renamed (f (r .at)) a′ b′ c′ (slot-seven d (r .at) (s .slot))
+      y : Renamed new (f (r .at)) e
+      y = renamed (f (r .at)) new (slot-seven d (r .at) (s .slot))
 
-      x : IsFile a′ b′ c′ e
-      x = y .file (is-file a b c (f (r .at)) (rw (s .is) at h) .kept)
+      x : IsFile new e
+      x = y .file (is-file old (f (r .at)) (rw (s .is) at h) .permanent)
 
-      new : holds l e ≡ true
-      new = file-holds a′ b′ c′ e x
+      has : holds l e ≡ true
+      has = file-holds new e x

@@ -2,36 +2,44 @@
 -- that, whatever comes next. So each request is settled line by line. Assumes nothing.
 use Prim.Native.Nat.{ℕ, zero, suc}
 use native.Mathlib.Omega.{arith}
-use mathlib.Core.Path.{_≡_, refl}
+use mathlib.Core.Path.{_≡_, refl, sym, _∙_}
 use mathlib.Core.Bool.{Bool, true, false, _&&_, _||_, not, false≢true}
 use mathlib.Core.Logic.{_⊎_, inl, inr, ⊎-elim}
 use mathlib.Core.List.{List, [], _∷_, _++_, map}
 use mathlib.Core.Option.{Option, none, some}
 use lib.IntN.{ℤ}
 use lib.Dec.{eqb, leb}
-use borrow.Author.Tests.{eqb-true}
-use Rattle.names.specs.Radix.{legalName}
+use borrow.Author.Tests.{eqb-true, eq-eqb}
 use Rattle.dates.specs.Dates.{goodDate}
-use Rattle.bools.proofs.Bools.{either}
+use Rattle.bools.proofs.Bools.{either, neither}
 use Rattle.meaning.specs.declared.Op.{Op}
 use Rattle.meaning.specs.declared.Op.the-variants.{Lookup, Enter, Close, Abandon, Delete, Rename}
 use Rattle.meaning.specs.declared.Request.{Request}
+use Rattle.meaning.specs.declared.Name.{Name}
+use Rattle.meaning.specs.Kinds.{tentativeStatus}
 use Rattle.meaning.specs.Words.{Row, Entry, blocks, slotWords, chain}
 use Rattle.meaning.specs.Sound.{bad1, bad2, bad3, bad4, bad5, bad6, rule, fault}
 use Rattle.meaning.specs.Answers.{Outcome, refuse, success, passed, ifSound, unless, onRow, isNone, fileOf, openOn, write}
-use Rattle.meaning.specs.Requests.{shown, lookup, delete, emptying, goodChannel, wordOf, abandon, rename, finalLength, closed, close, entryOf, fresh}
+use Rattle.meaning.specs.Requests.{legal, successWith, lookup, delete, emptying, goodChannel, wordOf, abandon, rename, finalLength, closed}
+use Rattle.meaning.specs.Requests.{close, entryOf, fresh}
 use Rattle.meaning.specs.Enter.{Area, goodSize, sizeOf, tidied, areas, eligibles, wanted, atLeast, longEnough, firstFit, placed, enter}
 use Rattle.meaning.specs.Batch.{serveBy, serve}
 use Rattle.laws.specs.Refusals.{faults, asked, Among, Settled, Demand1}
 
 -- a number is listed where a test of the whole list says so
-abbrev isAmong : ℕ → List ℕ → Bool
+abbrev pub isAmong : ℕ → List ℕ → Bool
 isAmong n [] = false
 isAmong n (m ∷ ms) = eqb n m || isAmong n ms
 
-among : (n : ℕ) (ms : List ℕ) → isAmong n ms ≡ true → Among n ms
+pub among : (n : ℕ) (ms : List ℕ) → isAmong n ms ≡ true → Among n ms
 among n [] h = absurd (false≢true h)
 among n (m ∷ ms) h = ⊎-elim (λ e. inl (eqb-true n m e)) (λ r. inr (among n ms r)) (either (eqb n m) (isAmong n ms) h)
+
+-- and no listed number is one that the test does not find
+pub not-among : (n m : ℕ) (ms : List ℕ) → isAmong n ms ≡ false → Among m ms → m ≡ n → ⊥
+not-among n m [] h a e = a
+not-among n m (l ∷ ms) h (inl g) e = false≢true (sym (neither (eqb n l) (isAmong n ms) h .0) ∙ eq-eqb n l (sym e ∙ g))
+not-among n m (l ∷ ms) h (inr a) e = not-among n m ms (neither (eqb n l) (isAmong n ms) h .1) a e
 
 -- what is listed first is listed
 among-first : (n : ℕ) (ms ns : List ℕ) → Among n ms → Among n (ms ++ ns)
@@ -42,7 +50,7 @@ module _ (ns : List ℕ) (d : List ℕ) where
   refuse-settled : (n : ℕ) → Among n ns → Settled ns d (refuse n d)
   unfolding refuse
   refuse-settled n h =
-      record { number = inr h; refused = λ x. record { first = refl; length = refl; date = refl; words = refl } }
+      record { number = inr h; refused = λ x. record { answer = refl; words = refl } }
 
   success-settled : (first length date : ℕ) (after : List ℕ) → Settled ns d (success first length date after)
   unfolding success
@@ -52,7 +60,8 @@ module _ (ns : List ℕ) (d : List ℕ) where
   unless-settled n true next h s = s
   unless-settled n false next h s = refuse-settled n h
 
-  row-settled : (n : ℕ) (r : Option Row) (next : Row → Outcome) → Among n ns → ((x : Row) → Settled ns d (next x)) → Settled ns d (onRow n r d next)
+  row-settled : (n : ℕ) (r : Option Row) (next : Row → Outcome) → Among n ns → ((x : Row) → Settled ns d (next x))
+      → Settled ns d (onRow n r d next)
   row-settled n none next h s = refuse-settled n h
   row-settled n (some x) next h s = s x
 
@@ -61,7 +70,8 @@ module _ (ns : List ℕ) (d : List ℕ) where
   passed-settled (suc n) next h s = refuse-settled (suc n) (⊎-elim (λ e. absurd (omega arith)) (λ a. a) h)
 
 -- a fault's number is 0 or one of 1 to 6
-faultOf : (a b c e f g : Bool) → let n = rule 1 a λ _. rule 2 b λ _. rule 3 c λ _. rule 4 e λ _. rule 5 f λ _. rule 6 g λ _. 0 in (n ≡ 0) ⊎ Among n faults
+faultOf : (a b c e f g : Bool)
+    → let n = rule 1 a λ _. rule 2 b λ _. rule 3 c λ _. rule 4 e λ _. rule 5 f λ _. rule 6 g λ _. 0 in (n ≡ 0) ⊎ Among n faults
 faultOf true b c e f g = inr (inl refl)
 faultOf false true c e f g = inr (inr (inl refl))
 faultOf false false true e f g = inr (inr (inr (inl refl)))
@@ -75,7 +85,8 @@ unfolding fault
 fault-listed v d = faultOf (bad1 v d) (bad2 d) (bad3 d) (bad4 d) (bad5 v d) (bad6 d)
 
 -- a request: the faults first, then its own refusals
-sound-settled : (v : ℕ) (d ns : List ℕ) (next : Unit {0} → Outcome) → Settled (faults ++ ns) d (next tt) → Settled (faults ++ ns) d (ifSound v d next)
+sound-settled : (v : ℕ) (d ns : List ℕ) (next : Unit {0} → Outcome) → Settled (faults ++ ns) d (next tt)
+    → Settled (faults ++ ns) d (ifSound v d next)
 sound-settled v d ns next s =
     passed-settled (faults ++ ns) d (fault v d) next
     (⊎-elim inl (λ a. inr (among-first (fault v d) faults ns a)) (fault-listed v d))
@@ -83,32 +94,32 @@ sound-settled v d ns next s =
 
 module _ (v : ℕ) (d : List ℕ) where
   -- lookup and delete: they differ in the words after
-  named-settled : (a b c : ℕ) (after : Row → List ℕ)
+  named-settled : (name : Name) (after : Row → List ℕ)
       → Settled (faults ++ 7 ∷ 13 ∷ []) d
-      (ifSound v d λ _. unless 7 (legalName a b c) d λ _. onRow 13 (fileOf d a b c) d λ r. shown r (after r))
-  unfolding shown
-  named-settled a b c after =
+      (ifSound v d λ _. unless 7 (legal name) d λ _. onRow 13 (fileOf d name) d λ r. successWith r (after r))
+  unfolding successWith
+  named-settled name after =
       let ns = faults ++ 7 ∷ 13 ∷ [] in
       sound-settled v d (7 ∷ 13 ∷ []) _
-      (unless-settled ns d 7 (legalName a b c) _ (among 7 ns refl)
-      (row-settled ns d 13 (fileOf d a b c) _ (among 13 ns refl) (λ r. success-settled ns d _ _ _ _)))
+      (unless-settled ns d 7 (legal name) _ (among 7 ns refl)
+      (row-settled ns d 13 (fileOf d name) _ (among 13 ns refl) (λ r. success-settled ns d _ _ _ _)))
 
   abandon-settled : (job channel : ℕ) → Settled (faults ++ asked Abandon) d (abandon v d job channel)
-  unfolding abandon shown
+  unfolding abandon successWith
   abandon-settled job channel =
       let ns = faults ++ asked Abandon in
       sound-settled v d (asked Abandon) _
       (unless-settled ns d 8 (goodChannel job channel) _ (among 8 ns refl)
       (row-settled ns d 15 (openOn d (wordOf job channel)) _ (among 15 ns refl) (λ r. success-settled ns d _ _ _ _)))
 
-  rename-settled : (a b c a′ b′ c′ : ℕ) → Settled (faults ++ asked Rename) d (rename v d a b c a′ b′ c′)
-  unfolding rename shown
-  rename-settled a b c a′ b′ c′ =
+  rename-settled : (old new : Name) → Settled (faults ++ asked Rename) d (rename v d old new)
+  unfolding rename successWith
+  rename-settled old new =
       let ns = faults ++ asked Rename in
       sound-settled v d (asked Rename) _
-      (unless-settled ns d 7 (legalName a b c && legalName a′ b′ c′) _ (among 7 ns refl)
-      (row-settled ns d 13 (fileOf d a b c) _ (among 13 ns refl)
-      (λ r. unless-settled ns d 14 (isNone (fileOf d a′ b′ c′)) _ (among 14 ns refl) (success-settled ns d _ _ _ _))))
+      (unless-settled ns d 7 (legal old && legal new) _ (among 7 ns refl)
+      (row-settled ns d 13 (fileOf d old) _ (among 13 ns refl)
+      (λ r. unless-settled ns d 14 (isNone (fileOf d new)) _ (among 14 ns refl) (success-settled ns d _ _ _ _))))
 
   closed-settled : (r : Row) (n : Option ℕ) → Settled (faults ++ asked Close) d (closed d r n)
   closed-settled r none = let ns = faults ++ asked Close in refuse-settled ns d 16 (among 16 ns refl)
@@ -142,20 +153,20 @@ module _ (v : ℕ) (d : List ℕ) where
       (unless-settled ns d 11 f (λ _. unless 12 g d λ _. o) (among 11 ns refl)
       (unless-settled ns d 12 g (λ _. o) (among 12 ns refl) s)))))
 
-  enter-settled : (a b c : ℕ) (asked-size : ℤ) (job channel date : ℕ)
-      → Settled (faults ++ asked Enter) d (enter v d a b c asked-size job channel date)
+  enter-settled : (name : Name) (asked-size : ℤ) (job channel date : ℕ)
+      → Settled (faults ++ asked Enter) d (enter v d name asked-size job channel date)
   unfolding enter
-  enter-settled a b c asked-size job channel date =
+  enter-settled name asked-size job channel date =
       let size = sizeOf asked-size in
       let x = wordOf job channel in
       let t = tidied d (chain d) in
       let all = areas t (chain d) in
       let fit = eligibles all in
       let n = wanted size (map (λ r. r .size) fit) in
-      let new = entryOf (slotWords d) 256 a b c n x date in
+      let new = entryOf (slotWords d) tentativeStatus name n x date in
       let o = placed d t n date new (firstFit n fit) in
       sound-settled v d (asked Enter) _
-      (six-settled (legalName a b c) (goodChannel job channel) (goodSize size && goodDate date) (isNone (openOn d x))
+      (six-settled (legal name) (goodChannel job channel) (goodSize size && goodDate date) (isNone (openOn d x))
       (longEnough (atLeast size) all)
       (longEnough (atLeast size) fit)
       o
@@ -163,12 +174,12 @@ module _ (v : ℕ) (d : List ℕ) where
 
   serve-settled : (op : Op) (q : Request) → Settled (faults ++ asked op) d (serveBy op v d q)
   unfolding lookup delete
-  serve-settled Lookup q = named-settled (q .name .first) (q .name .second) (q .name .extension) (λ r. d)
-  serve-settled Enter q = enter-settled _ _ _ _ _ _ _
+  serve-settled Lookup q = named-settled (q .name) (λ r. d)
+  serve-settled Enter q = enter-settled _ _ _ _ _
   serve-settled Close q = close-settled _ _ _
   serve-settled Abandon q = abandon-settled _ _
-  serve-settled Delete q = named-settled (q .name .first) (q .name .second) (q .name .extension) (λ r. write d (emptying r))
-  serve-settled Rename q = rename-settled _ _ _ _ _ _
+  serve-settled Delete q = named-settled (q .name) (λ r. write d (emptying r))
+  serve-settled Rename q = rename-settled _ _
 
   start-settled : (extra : ℕ) → Settled (1 ∷ 2 ∷ []) d (fresh v d extra)
   unfolding fresh

@@ -10,13 +10,13 @@ use native.Mathlib.Omega.{arith}
 use lib.ListN.{length, getD, take, drop, replicate, length-append, length-take, length-drop, length-replicate, List·getD-append}
 use lib.Seq.{getD-take, take-take, drop-drop, take-at, drop-at, take-append-le, drop-append-le, drop-append-add, take-nil, length-take-le}
 use Rattle.meaning.specs.declared.Kind.the-variants.{End}
-use Rattle.meaning.specs.Kinds.{kindOf, isEnd}
+use Rattle.meaning.specs.Kinds.{endStatus, kindOf, isEnd}
 use Rattle.meaning.specs.Words.{segment, slotCount, Entry, kind, chunks, slots, upto}
 use Rattle.meaning.specs.Requests.{flat, render}
 use Rattle.meaning.specs.Enter.{withSegment, headerOf}
 use Rattle.walks.specs.Scan.{scanBad}
 use Rattle.laws.specs.Order.{All}
-use Rattle.laws.proofs.Grid.{entryAt, length-at, gridOf, slots-grid, take-drop-take, tri, Placed, placed}
+use Rattle.laws.proofs.Grid.{entryAt, length-at, gridOf, slots-grid, take-drop-take, tri, Placed, grid-placed}
 use Rattle.laws.proofs.Fine.{Fine, slots-fine, fine-slots, fine-upto}
 
 -- an entry of w words, and entries of w words each
@@ -64,7 +64,7 @@ body w d s l h b =
       fine = f .0;
       wide =
           wide-upto w (slots w (segment d s))
-          (rw (slots-grid w d s) (wide-at d w (s - 1) (gridOf w s) (omega arith) (placed w s)));
+          (rw (slots-grid w d s) (wide-at d w (s - 1) (gridOf w s) (omega arith) (grid-placed w s)));
       room = omega (arith, f .1);
     }
 
@@ -82,19 +82,19 @@ record Marked (es xs : List Entry) : Type 0 where
   ends : kind marker ≡ End
 
 chunks-flat : (w : ℕ) (z : List ℕ) → 7 ≤ w → (es : List Entry) (n j : ℕ) → Wide w es → length es < n → (length es + 1) * w ≤ j
-    → Marked es (chunks n w (take j (flat es (2048 ∷ z))))
+    → Marked es (chunks n w (take j (flat es (endStatus ∷ z))))
 unfolding chunks flat kindOf
 chunks-flat w z h [] zero j a l g = absurd (omega arith)
 chunks-flat w z h [] (suc n) j a l g =
     record {
-      marker = take w (take j (2048 ∷ z));
-      rest = chunks n w (drop w (take j (2048 ∷ z)));
+      marker = take w (take j (endStatus ∷ z));
+      rest = chunks n w (drop w (take j (endStatus ∷ z)));
       are = refl;
-      ends = rw (getD-take w (take j (2048 ∷ z)) 0 0 (omega arith), getD-take j (2048 ∷ z) 0 0 (omega arith));
+      ends = rw (getD-take w (take j (endStatus ∷ z)) 0 0 (omega arith), getD-take j (endStatus ∷ z) 0 0 (omega arith));
     }
 chunks-flat w z h (e ∷ es) zero j a l g = absurd (omega arith)
 chunks-flat w z h (e ∷ es) (suc n) j a l g =
-    let r = flat es (2048 ∷ z) in
+    let r = flat es (endStatus ∷ z) in
     let i = chunks-flat w z h es n (j - w) (a .1) (omega arith) (omega arith) in
     let t : take w (take j (e ++ r)) ≡ e = take-take w j (e ++ r) (omega arith) ∙ take-at e r w (a .0) in
     let u : drop w (take j (e ++ r)) ≡ take (j - w) r = drop-take w j (e ++ r) ∙ (rw (drop-at e r w (a .0))) in
@@ -109,7 +109,7 @@ slots-render : (w : ℕ) (h : List ℕ) (es : List Entry) → 7 ≤ w → length
     → Marked es (slots w (render h es))
 unfolding slots render
 slots-render w h es l e a g =
-    let f = flat es (2048 ∷ replicate 512 0) in
+    let f = flat es (endStatus ∷ replicate 512 0) in
     let t : drop 5 (take 512 (h ++ f)) ≡ take 507 f = drop-take 5 512 (h ++ f) ∙ ap (take 507) (drop-at h f 5 e) in
     let m : (length es + 1) * w ≤ slotCount w * w = mul-le-mul-right w (omega arith) in
     rw t (chunks-flat w (replicate 512 0) l es (slotCount w) 507 a g (omega (arith, div-mul-le-self 507 w)))
@@ -122,8 +122,8 @@ flat-long (e ∷ es) t = let i = flat-long es t in let l = length-append e (flat
 pub length-render : (h : List ℕ) (es : List Entry) → length (render h es) ≡ 512
 unfolding render
 length-render h es =
-    let f = flat es (2048 ∷ replicate 512 0) in
-    let a = flat-long es (2048 ∷ replicate 512 0) in
+    let f = flat es (endStatus ∷ replicate 512 0) in
+    let a = flat-long es (endStatus ∷ replicate 512 0) in
     let b = length-append h f in
     let c = length-replicate {A = ℕ} 512 0 in
     length-take 512 (h ++ f) ∙ omega arith
@@ -131,7 +131,7 @@ length-render h es =
 head-render : (h : List ℕ) (es : List Entry) (j : ℕ) → length h ≡ 5 → j < 5 → getD (render h es) j 0 ≡ getD h j 0
 unfolding render
 head-render h es j e l =
-    let f = flat es (2048 ∷ replicate 512 0) in
+    let f = flat es (endStatus ∷ replicate 512 0) in
     getD-take 512 (h ++ f) j 0 (omega arith) ∙ List·getD-append h f 0 j (omega arith)
 
 -- a segment read back

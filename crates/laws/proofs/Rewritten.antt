@@ -3,6 +3,7 @@
 use Prim.Native.Nat.{ℕ, _*_, _≤_, _<_}
 use mathlib.Core.Path.{_≡_, refl, sym, _∙_}
 use mathlib.Core.Logic.{_≢_}
+use mathlib.Core.Bool.{true}
 use mathlib.Core.List.{List, [], _∷_, _++_, append-nil}
 use native.Mathlib.Omega.{arith}
 use native.Mathlib.Decide.{ℕ-discrete}
@@ -10,12 +11,13 @@ use lib.ListN.{length, getD}
 use Rattle.meaning.specs.Words.{segment, extraBytesOf, firstOf, highest, slotWords, Entry, entries, total, chain}
 use Rattle.meaning.specs.Requests.{render}
 use Rattle.meaning.specs.Enter.{withSegment, headerOf}
-use Rattle.laws.specs.Order.{Key}
+use Rattle.meaning.specs.declared.Key.{Key}
+use Rattle.meaning.specs.Keys.{holds, once}
 use Rattle.laws.proofs.Rule5.{rule1-holds, rule2-holds}
-use Rattle.laws.proofs.Keys.{holds}
 use Rattle.laws.proofs.Soundness.{Sound}
 use Rattle.laws.proofs.Move.{head-word}
-use Rattle.laws.proofs.Rendered.{Body, body, Written, written, length-render, header-length, header-word, with-length, with-own, with-other}
+use Rattle.laws.proofs.Rendered.{Body, body, Written, written, length-render, header-length, header-word, with-length, with-own}
+use Rattle.laws.proofs.Rendered.{with-other}
 use Rattle.laws.proofs.Living.{Live, living, livingOf, counted}
 use Rattle.laws.proofs.Way.{shapeOf, Stop, entriesIn, Like}
 use Rattle.laws.proofs.Anew.{stop-at, Change, Anew, anew}
@@ -41,7 +43,7 @@ pub record Rewritten (v : ℕ) (d : List ℕ) (s : ℕ) (out : List Entry) (D : 
   pub after : List Live
   pub living-was : livingOf d ≡ before ++ (living (firstOf (segment d s)) (entries d s) ++ after)
   pub living-is : livingOf D ≡ before ++ (living (firstOf (segment d s)) out ++ after)
-  pub sound : ((k : Key) → counted (holds k) (livingOf D) ≤ 1) → Sound v D
+  pub sound : ((k : Key) → once k ≡ true → counted (holds k) (livingOf D) ≤ 1) → Sound v D
 
 module _ (v : ℕ) (d : List ℕ) (sd : Sound v d) (s : ℕ) (low : 1 ≤ s) (high : s ≤ highest d) (out : List Entry)
     (bd : Body (slotWords d) out) (sum : total out ≡ total (entries d s)) where

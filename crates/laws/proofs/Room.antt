@@ -1,6 +1,6 @@
--- Demand 2, *Room* of enter. The areas that enter tests are those of the tidied directory, segment by segment the tidied entries; there each
--- area with a length above 0 is a run of the directory as it was, and the other way round, with the same cost. So the tests for 11 and 12 say
--- just that there is a run that is long enough, and one for which a slot can be had.
+-- Demand 2, *Room* of enter. The areas that enter tests are those of the tidied directory, segment by segment the tidied entries; there
+-- each area with a length above 0 is a run of the directory as it was, and the other way round, with the same cost. So the tests for 11
+-- and 12 say just that there is a run that is long enough, and one for which a slot can be had.
 use Prim.Native.Nat.{ℕ, zero, suc, _+_, _≤_, _<_}
 use mathlib.Core.Path.{_≡_, refl, sym, _∙_, subst}
 use mathlib.Core.Logic.{_⊎_, inl, inr, ⊎-elim}
@@ -9,10 +9,11 @@ use mathlib.Core.List.{List, [], _∷_, _++_}
 use native.Mathlib.Nat.{le-of-suc-le-suc, not-suc-le-zero}
 use native.Mathlib.Omega.{arith}
 use lib.IntN.{ℤ, pos, negsuc}
-use lib.ListN.{length, getD, take}
+use lib.ListN.{length, take}
 use lib.Dec.{eqb, leb, ltb}
 use borrow.Author.Tests.{leb-true, le-leb, ltb-true, lt-ltb, eqb-false}
 use Rattle.bools.proofs.Bools.{both, either}
+use Rattle.meaning.specs.declared.Name.{Name}
 use Rattle.meaning.specs.Words.{segments, segment, linkOf, firstOf, highest, slotWords, capacity, Entry, entries, chainFrom, reached, chain}
 use Rattle.meaning.specs.Sound.{any, fault}
 use Rattle.meaning.specs.Answers.{Outcome, refuse, success}
@@ -21,7 +22,10 @@ use Rattle.meaning.specs.Enter.{eligibles, longEnough, enter}
 use Rattle.walks.proofs.Lists.{chain-length, chain-at}
 use Rattle.laws.specs.Order.{All}
 use Rattle.laws.specs.Sound.{visit}
+use Rattle.laws.specs.Refusals.{beforeRoom}
 use Rattle.laws.specs.Room.{Run, joinedLength, LongRun, Takes, SlottedRun, Room}
+use Rattle.laws.proofs.Alls.{all-at}
+use Rattle.laws.proofs.Refusals.{not-among}
 use Rattle.laws.proofs.Soundness.{Sound, sound}
 use Rattle.laws.proofs.Fine.{flag}
 use Rattle.laws.proofs.Rendered.{Wide}
@@ -32,7 +36,7 @@ use Rattle.laws.proofs.TidiedSound.{Tidied, Alike, tidied-is}
 use Rattle.laws.proofs.Areas.{area-there, RoomIn, Stood, areas-stood}
 use Rattle.laws.proofs.Runs.{AreaIn, run-area, area-run}
 use Rattle.laws.proofs.RunPlaces.{run-piece, PlacedRun, piece-run, takes-cost, cost-takes}
-use Rattle.laws.proofs.Entering.{tidiedOf, areasOf, eligiblesOf, Entering, early, short, crowded, made, entering}
+use Rattle.laws.proofs.Entering.{tidiedOf, areasOf, eligiblesOf, Entering, early, short, crowded, taken, entering}
 
 -- some area of a list passes a test
 any-append : {A : Type 0} (q : A → Bool) (xs ys : List A) → any q (xs ++ ys) ≡ any q xs || any q ys
@@ -60,23 +64,19 @@ eligible-any m (x ∷ xs) = go (x .eligible) (eligible-any m xs)
     go true i = rw i
     go false i = i
 
-all-at : (P : ℕ → Type 0) (xs : List ℕ) → All P xs → (i : ℕ) → i < length xs → P (getD xs i 0)
-all-at P [] a i l = absurd (not-suc-le-zero l)
-all-at P (x ∷ xs) a zero l = a .0
-all-at P (x ∷ xs) a (suc i) l = all-at P xs (a .1) i (le-of-suc-le-suc l)
-
 -- a visited segment is in use
 used-visit : (v : ℕ) (d : List ℕ) → Sound v d → (i : ℕ) → i < highest d → Used d (visit d i)
 unfolding chain
 used-visit v d sd i l =
     let n = chain-length (highest d) d 1 in
-    subst (Used d) (chain-at (highest d) d 1 i l) (all-at (Used d) (chain d) (chain-used v d sd) i (omega arith))
+    subst (Used d) (chain-at (highest d) d 1 i l) (all-at (Used d) (chain d) (chain-used v d sd) i (omega arith) 0)
 
 -- the areas of one segment of t are among all
 abbrev areasAt : List ℕ → ℕ → List Area
 areasAt t s = areasIn (RoomIn t s) s 0 (firstOf (segment t s)) false (entries t s)
 
-areas-at : (q : Area → Bool) (t d : List ℕ) (n s i : ℕ) → i < n → any q (areasAt t (reached i d s)) ≡ true → any q (areas t (chainFrom n d s)) ≡ true
+areas-at : (q : Area → Bool) (t d : List ℕ) (n s i : ℕ) → i < n → any q (areasAt t (reached i d s)) ≡ true
+    → any q (areas t (chainFrom n d s)) ≡ true
 unfolding areas chainFrom reached
 areas-at q t d zero s i l h = absurd (not-suc-le-zero l)
 areas-at q t d (suc n) s zero l h = any-append q (areasAt t s) (areas t (chainFrom n d (linkOf (segment d s)))) ∙ (rw h)
@@ -165,15 +165,15 @@ module _ (v : ℕ) (d : List ℕ) (sd : Sound v d) where
           ∙ (rw (← cost) (had (x .had)))
 
   -- from areas to runs
-  record Found (a : Area) : Type 0 where
+  record FoundRun (a : Area) : Type 0 where
     at : ℕ
     used : at < highest d
     behind : Bool
     run : PlacedRun (entries d (visit d at)) (a .size) behind
     choice : a .eligible ≡ leb 1 (a .size) && hasRoom t (entries t (visit d at)) (costAfter behind)
 
-  found : (a : Area) → Stood t a → Found a
-  found a x =
+  found-run : (a : Area) → Stood t a → FoundRun a
+  found-run a x =
       let o = visited v d sd (a .seg) (u .0) (u .1) in
       let y = x .stands in
       let p = flag false (y .before) in
@@ -206,7 +206,7 @@ module _ (v : ℕ) (d : List ℕ) (sd : Sound v d) where
   stood-all : All (Stood t) (areasOf d)
   stood-all = areas-stood t (chain d) (subst (All (Used t)) (al .chain) (chain-used v t (al .sound)))
 
-  long-run : (m : ℕ) (a : Area) → Found a → m ≤ a .size → LongRun d m
+  long-run : (m : ℕ) (a : Area) → FoundRun a → m ≤ a .size → LongRun d m
   long-run m a f l =
       record {
         at = f .at;
@@ -217,7 +217,7 @@ module _ (v : ℕ) (d : List ℕ) (sd : Sound v d) where
         long = omega (arith, f .run .sum);
       }
 
-  slotted-run : (m : ℕ) (a : Area) → Found a → m ≤ a .size → a .eligible ≡ true → SlottedRun d m
+  slotted-run : (m : ℕ) (a : Area) → FoundRun a → m ≤ a .size → a .eligible ≡ true → SlottedRun d m
   unfolding long-run
   slotted-run m a f l e =
       record {
@@ -246,13 +246,14 @@ module _ (v : ℕ) (d : List ℕ) (sd : Sound v d) where
   unfolding longEnough
   there-long m h =
       let x = any-some (λ (a : Area). leb m (a .size)) (Stood t) (areasOf d) stood-all h in
-      long-run m (x .0) (found (x .0) (x .1)) (leb-true m (x .0 .size) (x .2))
+      long-run m (x .0) (found-run (x .0) (x .1)) (leb-true m (x .0 .size) (x .2))
 
   there-slotted : (m : ℕ) → longEnough m (eligiblesOf d) ≡ true → SlottedRun d m
   there-slotted m h =
-      let x = any-some (λ (a : Area). a .eligible && leb m (a .size)) (Stood t) (areasOf d) stood-all (sym (eligible-any m (areasOf d)) ∙ h) in
+      let x =
+      any-some (λ (a : Area). a .eligible && leb m (a .size)) (Stood t) (areasOf d) stood-all (sym (eligible-any m (areasOf d)) ∙ h) in
       let b = both (x .0 .eligible) (leb m (x .0 .size)) (x .2) in
-      slotted-run m (x .0) (found (x .0) (x .1)) (leb-true m (x .0 .size) (b .1)) (b .0)
+      slotted-run m (x .0) (found-run (x .0) (x .1)) (leb-true m (x .0 .size) (b .1)) (b .0)
 
 -- what is asked for is at least 1
 at-least-one : (asked : ℤ) → 1 ≤ atLeast (sizeOf asked)
@@ -273,14 +274,7 @@ at-least-one (negsuc n) = go (eqb n 0)
     go true = omega arith
     go false = omega arith
 
--- what an outcome says of the room
-record RoomOf (d : List ℕ) (m : ℕ) (o : Outcome) : Type 0 where
-  eleven : o .answer .number ≡ 11 → LongRun d m → ⊥
-  twelve : o .answer .number ≡ 12 → LongRun d m × (SlottedRun d m → ⊥)
-  success : o .answer .number ≡ 0 → SlottedRun d m
-  only : (o .answer .number ≡ 0) ⊎ (((o .answer .number ≡ 11) ⊎ (o .answer .number ≡ 12)) ⊎ ((7 ≤ o .answer .number) × (o .answer .number ≤ 10)))
-
-module _ (v : ℕ) (d : List ℕ) (h : fault v d ≡ 0) (a b c : ℕ) (asked : ℤ) (job channel date : ℕ) where
+module _ (v : ℕ) (d : List ℕ) (h : fault v d ≡ 0) (name : Name) (asked : ℤ) (job channel date : ℕ) where
   abbrev m : ℕ
   m = atLeast (sizeOf asked)
 
@@ -290,34 +284,34 @@ module _ (v : ℕ) (d : List ℕ) (h : fault v d ≡ 0) (a b c : ℕ) (asked : �
   one : 1 ≤ m
   one = at-least-one asked
 
-  room-of-outcome : (o : Outcome) → Entering d a b c asked job channel date o → RoomOf d m o
+  room-of-outcome : (o : Outcome) → Entering d name asked job channel date o → Room d m o
   unfolding refuse success
-  room-of-outcome o (early k l l′ q) =
-      subst (RoomOf d m) (sym q)
+  room-of-outcome o (early k a q) =
+      subst (Room d m) (sym q)
       (record {
-        eleven = λ e. absurd (omega arith);
-        twelve = λ e. absurd (omega arith);
-        success = λ e. absurd (omega arith);
-        only = inr (inr (l, l′));
+        eleven = λ e. absurd (not-among 11 k beforeRoom refl a e);
+        twelve = λ e. absurd (not-among 12 k beforeRoom refl a e);
+        success = λ e. absurd (not-among 0 k beforeRoom refl a e);
+        only = inr (inr (inr a));
       })
   room-of-outcome o (short s q) =
-      subst (RoomOf d m) (sym q)
+      subst (Room d m) (sym q)
       (record {
         eleven = λ e r. false≢true (sym s ∙ long-there v d sd m one r);
         twelve = λ e. absurd (omega arith);
         success = λ e. absurd (omega arith);
-        only = inr (inl (inl refl));
+        only = inr (inl refl);
       })
   room-of-outcome o (crowded s s′ q) =
-      subst (RoomOf d m) (sym q)
+      subst (Room d m) (sym q)
       (record {
         eleven = λ e. absurd (omega arith);
         twelve = λ e. (there-long v d sd m s, λ r. false≢true (sym s′ ∙ slotted-there v d sd m one r));
         success = λ e. absurd (omega arith);
-        only = inr (inl (inr refl));
+        only = inr (inr (inl refl));
       })
-  room-of-outcome o (made p legal none-open s fit q) =
-      subst (RoomOf d m) (sym q)
+  room-of-outcome o (taken p legal none-open s fit q) =
+      subst (Room d m) (sym q)
       (record {
         eleven = λ e. absurd (omega arith);
         twelve = λ e. absurd (omega arith);
@@ -325,7 +319,5 @@ module _ (v : ℕ) (d : List ℕ) (h : fault v d ≡ 0) (a b c : ℕ) (asked : �
         only = inl refl;
       })
 
-  pub room : Room v d a b c asked job channel date
-  room =
-      let r = room-of-outcome (enter v d a b c asked job channel date) (entering d a b c asked job channel date v h) in
-      record { eleven = r .eleven; twelve = r .twelve; success = r .success; only = r .only }
+  pub room : Room d (atLeast (sizeOf asked)) (enter v d name asked job channel date)
+  room = room-of-outcome (enter v d name asked job channel date) (entering d name asked job channel date v h)

@@ -16,10 +16,12 @@ use Rattle.meaning.specs.Words.{segment, firstOf, slotWords, slotCount, Entry, 
 use Rattle.meaning.specs.Words.{Row, rowsIn, segmentRows, rowsOf, rows, entriesOf, allEntries}
 use Rattle.meaning.specs.Answers.{find}
 use Rattle.walks.specs.Scan.{badBy, longNamed, scanBad}
-use Rattle.laws.specs.Order.{Key, All}
+use Rattle.meaning.specs.declared.Key.{Key}
+use Rattle.meaning.specs.Keys.{holds, once}
+use Rattle.laws.specs.Order.{All}
 use Rattle.laws.proofs.Alls.{all-map, all-append}
-use Rattle.laws.proofs.Keys.{holds, count}
-use Rattle.laws.proofs.Grid.{grid, gridOf, entryAt, slots-grid, OnGrid, Placed, placed}
+use Rattle.laws.proofs.Keys.{count}
+use Rattle.laws.proofs.Grid.{grid, gridOf, entryAt, slots-grid, OnGrid, Placed, grid-placed}
 use Rattle.laws.proofs.Soundness.{Readable, Within, Sound, chain-within}
 use Rattle.laws.proofs.Touch.{by-rest}
 
@@ -96,7 +98,7 @@ module _ (d : List ℕ) where
       all-append (Stand d) (segmentRows d s) (rowsOf d ss)
       (rw (slots-grid w d s)
       (stand-in s (slotCount w) 1 (512 * (s - 1) + 5) (firstOf (segment d s)) false
-      (all-map (Placed w (s - 1)) (Slot d) (slot-of s (a .0)) (gridOf w s) (placed w s))
+      (all-map (Placed w (s - 1)) (Slot d) (slot-of s (a .0)) (gridOf w s) (grid-placed w s))
       (rw (slots-grid w d s) at (h .0))))
       (stands-of ss (a .1) (h .1))
 
@@ -124,8 +126,8 @@ pub entries-rows : (d : List ℕ) → map entry-of (rows d) ≡ allEntries d
 unfolding rows allEntries
 entries-rows d = entries-from d (chain d)
 
-pub few-rows : (v : ℕ) (d : List ℕ) → Sound v d → (k : Key) → count (holds k) (map entry-of (rows d)) ≤ 1
-few-rows v d s k = rw (entries-rows d) (s .keys k)
+pub few-rows : (v : ℕ) (d : List ℕ) → Sound v d → (k : Key) → once k ≡ true → count (holds k) (map entry-of (rows d)) ≤ 1
+few-rows v d s k o = rw (entries-rows d) (s .keys k o)
 
 -- what is found
 pub find-some : (P : Row → Type 0) (t : Entry → Bool) (rs : List Row) (r : Row) → All P rs → find t rs ≡ some r

@@ -93,10 +93,10 @@ times-each zero xs f = refl
 times-each (suc n) xs f = rw (f (suc n) (omega arith) (omega arith), times-each n xs (λ k a b. f k a (omega arith)))
 
 -- a segment has segment 1's total and extra bytes
-abbrev Alike : List ℕ → ℕ → Type 0
-Alike d s = (totalOf (segment d s) ≡ totalOf d) × (extraBytesOf (segment d s) ≡ extraBytesOf d)
+abbrev SameHeads : List ℕ → ℕ → Type 0
+SameHeads d s = (totalOf (segment d s) ≡ totalOf d) × (extraBytesOf (segment d s) ≡ extraBytesOf d)
 
-not-differs : (d : List ℕ) (s : ℕ) → differs d s ≡ false → Alike d s
+not-differs : (d : List ℕ) (s : ℕ) → differs d s ≡ false → SameHeads d s
 unfolding differs
 not-differs d s h =
     let t = eqb (totalOf (segment d s)) (totalOf d) in
@@ -104,9 +104,9 @@ not-differs d s h =
     let p = both t x (not-false (t && x) h) in
     (eqb-true (totalOf (segment d s)) (totalOf d) (p .0), eqb-true (extraBytesOf (segment d s)) (extraBytesOf d) (p .1))
 
-alike : (d : List ℕ) (s : ℕ) → Alike d s → differs d s ≡ false
+same-heads : (d : List ℕ) (s : ℕ) → SameHeads d s → differs d s ≡ false
 unfolding differs
-alike d s a =
+same-heads d s a =
     rw (eq-eqb (totalOf (segment d s)) (totalOf d) (a .0), eq-eqb (extraBytesOf (segment d s)) (extraBytesOf d) (a .1))
 
 pub rule3-holds : (d : List ℕ) → bad3 d ≡ false → Rule3 d
@@ -126,7 +126,7 @@ rule3-holds d h =
     visited : (s : ℕ) → Once (highest d) d 1 s → VisitedOnce d s
     visited s o = record { at = o .at; within = o .within; there = o .there; only = o .only }
 
-    same : any (differs d) (chain d) ≡ false → (i : ℕ) → i < highest d → Alike d (visit d i)
+    same : any (differs d) (chain d) ≡ false → (i : ℕ) → i < highest d → SameHeads d (visit d i)
     same e i l = not-differs d (visit d i) (any-visit (differs d) (highest d) d 1 e i l)
 
 pub rule3-tested : (d : List ℕ) → Rule3 d → bad3 d ≡ false
@@ -135,7 +135,7 @@ rule3-tested d r =
     rw (
       times-each (highest d) (chain d) (λ s a b. once s (r .each s a b)),
       r .ends,
-      visit-any (differs d) (highest d) d 1 (λ i l. alike d (visit d i) (r .totals i l, r .extras i l)),
+      visit-any (differs d) (highest d) d 1 (λ i l. same-heads d (visit d i) (r .totals i l, r .extras i l)),
     )
   where
     once : (s : ℕ) → VisitedOnce d s → times s (chainFrom (highest d) d 1) ≡ 1

@@ -14,7 +14,8 @@ use borrow.Author.Tests.{ltb-false, le-ltb}
 use Rattle.meaning.specs.declared.Kind.{Kind}
 use Rattle.meaning.specs.declared.Kind.the-variants.{Tentative, Empty, Permanent, End, Unknown}
 use Rattle.meaning.specs.Kinds.{isTentative, isEmpty, isPermanent}
-use Rattle.meaning.specs.Words.{segment, slotWords, Entry, kind, slots, chain}
+use Rattle.meaning.specs.declared.Name.{Name}
+use Rattle.meaning.specs.Words.{segment, slotWords, Entry, kind, nameOf, slots, chain}
 use Rattle.meaning.specs.Sound.{longName, badSlots, bad4}
 use Rattle.laws.specs.Sound.{visit, IsEntry, ShortName, Readable, Rule4}
 use Rattle.bools.proofs.Bools.{neither, never}
@@ -22,25 +23,25 @@ use Rattle.walks.proofs.Lists.{chain-at, chain-length, any-none, none-any}
 use Rattle.walks.specs.Scan.{badBy, longNamed, scanBad}
 use Rattle.walks.proofs.Scanned.{bad-scan}
 
--- words 1 to 3 of an entry are its name
-short-holds : (e : Entry) → longNamed e ≡ false → ShortName e
+-- a name without a word above 63,999
+short-holds : (n : Name) → longName n ≡ false → ShortName n
 unfolding longName
-short-holds e h =
-    let a = ltb 63999 (getD e 1 0) in
-    let b = ltb 63999 (getD e 2 0) in
-    let c = ltb 63999 (getD e 3 0) in
+short-holds n h =
+    let a = ltb 63999 (n .first) in
+    let b = ltb 63999 (n .second) in
+    let c = ltb 63999 (n .extension) in
     let p = neither (a || b) c h in
     let q = neither a b (p .0) in
     record {
-      name = ltb-false 63999 (getD e 1 0) (q .0);
-      name2 = ltb-false 63999 (getD e 2 0) (q .1);
-      extension = ltb-false 63999 (getD e 3 0) (p .1);
+      first = ltb-false 63999 (n .first) (q .0);
+      second = ltb-false 63999 (n .second) (q .1);
+      extension = ltb-false 63999 (n .extension) (p .1);
     }
 
-short-tested : (e : Entry) → ShortName e → longNamed e ≡ false
+short-tested : (n : Name) → ShortName n → longName n ≡ false
 unfolding longName
-short-tested e s =
-    rw (le-ltb 63999 (getD e 1 0) (s .name), le-ltb 63999 (getD e 2 0) (s .name2), le-ltb 63999 (getD e 3 0) (s .extension))
+short-tested n s =
+    rw (le-ltb 63999 (n .first) (s .first), le-ltb 63999 (n .second) (s .second), le-ltb 63999 (n .extension) (s .extension))
 
 -- a slot has one kind
 unlike : {A : Type 0} {k a b : Kind} (is : Kind → Bool) → is a ≡ true → is b ≡ false → k ≡ a → k ≡ b → A
@@ -51,9 +52,9 @@ abbrev Begins : (es : List Entry) → Readable es → Type 0
 Begins es r = (0 < r .mark) × (kind (getD es 0 []) ≡ Empty)
 
 -- an entry before readable slots
-put : (e : Entry) (es : List Entry) (r : Readable es) → IsEntry (kind e)
-    → ((kind e ≡ Permanent) ⊎ (kind e ≡ Tentative) → ShortName e) → (kind e ≡ Tentative → Begins es r) → Readable (e ∷ es)
-put e es r is short next =
+before-slots : (e : Entry) (es : List Entry) (r : Readable es) → IsEntry (kind e)
+    → ((kind e ≡ Permanent) ⊎ (kind e ≡ Tentative) → ShortName (nameOf e)) → (kind e ≡ Tentative → Begins es r) → Readable (e ∷ es)
+before-slots e es r is short next =
     record {
       mark = suc (r .mark);
       within = suc-le-suc (r .within);
@@ -68,7 +69,7 @@ put e es r is short next =
     before (suc j) l = r .before j (le-of-suc-le-suc l)
 
     named : (j : ℕ) → j < suc (r .mark) → (kind (getD (e ∷ es) j []) ≡ Permanent) ⊎ (kind (getD (e ∷ es) j []) ≡ Tentative)
-        → ShortName (getD (e ∷ es) j [])
+        → ShortName (nameOf (getD (e ∷ es) j []))
     named zero l k = short k
     named (suc j) l k = r .named j (le-of-suc-le-suc l) k
 
@@ -109,7 +110,7 @@ abbrev Found : Bool → List Entry → Type 0
 Found p es = (r : Readable es) × (p ≡ true → Begins es r)
 
 scan-holds : (p : Bool) (es : List Entry) → scanBad p es ≡ false → Found p es
-unfolding scanBad put
+unfolding scanBad before-slots
 scan-holds p [] h = absurd (true≢false h)
 scan-holds p (e ∷ es) h = go (kind e) refl h (λ q. scan-holds q es)
   where
@@ -117,7 +118,7 @@ scan-holds p (e ∷ es) h = go (kind e) refl h (λ q. scan-holds q es)
         → ((q : Bool) → scanBad q es ≡ false → Found q es) → Found p (e ∷ es)
     go End x y f = (ended e es x, λ t. absurd (true≢false (sym t ∙ y)))
     go Empty x y f = (
-      put e es (f false y .0) (inr (inl x))
+      before-slots e es (f false y .0) (inr (inl x))
           (⊎-elim (unlike isEmpty refl refl x) (unlike isEmpty refl refl x)) (unlike isEmpty refl refl x),
       λ t. (suc-le-suc zero-le, x),
     )
@@ -125,14 +126,14 @@ scan-holds p (e ∷ es) h = go (kind e) refl h (λ q. scan-holds q es)
         let u = neither (p || longNamed e) (scanBad false es) y in
         let w = neither p (longNamed e) (u .0) in
         let s = f false (u .1) .0 in (
-          put e es s (inr (inr x)) (λ _. short-holds e (w .1)) (unlike isPermanent refl refl x),
+          before-slots e es s (inr (inr x)) (λ _. short-holds (nameOf e) (w .1)) (unlike isPermanent refl refl x),
           λ t. absurd (true≢false (sym t ∙ w .0)),
         )
     go Tentative x y f =
         let u = neither (p || longNamed e) (scanBad true es) y in
         let w = neither p (longNamed e) (u .0) in
         let s = f true (u .1) in (
-          put e es (s .0) (inl x) (λ _. short-holds e (w .1)) (λ _. s .1 refl),
+          before-slots e es (s .0) (inl x) (λ _. short-holds (nameOf e) (w .1)) (λ _. s .1 refl),
           λ t. absurd (true≢false (sym t ∙ w .0)),
         )
     go Unknown x y f = absurd (true≢false y)
@@ -144,12 +145,12 @@ scan-entry : (p : Bool) (e : Entry) (es : List Entry) (r : Readable (e ∷ es)) 
 unfolding scanBad rest
 scan-entry p e es r n h f t l (inl x) =
     let a = r .followed 0 l x in
-    let b = short-tested e (r .named 0 l (inr x)) in
+    let b = short-tested (nameOf e) (r .named 0 l (inr x)) in
     let c = t true (λ _. (le-of-suc-le-suc (rw h at (a .0)), a .1)) in
     rw (x, never p (λ y. unlike isTentative refl refl x (f y)), b, c)
 scan-entry p e es r n h f t l (inr (inl x)) = rw x (t false (λ y. absurd (false≢true y)))
 scan-entry p e es r n h f t l (inr (inr x)) =
-    let b = short-tested e (r .named 0 l (inl x)) in
+    let b = short-tested (nameOf e) (r .named 0 l (inl x)) in
     let c = t false (λ y. absurd (false≢true y)) in
     rw (x, never p (λ y. unlike isPermanent refl refl x (f y)), b, c)
 

@@ -10,7 +10,7 @@ use mathlib.Core.List.{List}
 use lib.Dec.{eqb}
 use borrow.Author.Tests.{eqb-true, eq-eqb, not-false}
 use Rattle.bools.proofs.Bools.{both}
-use Rattle.meaning.specs.Words.{segments, firstData, segment, firstOf, highest, entries, total, chainFrom, reached, chain}
+use Rattle.meaning.specs.Words.{firstData, segment, firstOf, highest, entries, total, chainFrom, reached, chain}
 use Rattle.meaning.specs.Sound.{bad1, bad2, filled, bad5}
 use Rattle.walks.proofs.Heads.{sized, sized-tested, headed, headed-tested}
 use Rattle.walks.proofs.Lists.{next}
@@ -84,9 +84,10 @@ runs-filled v d (suc n) s b r =
     )
 
 -- with H = n + 1
-counted : (v : ℕ) (d : List ℕ) → 1 ≤ highest d → (n : ℕ) → highest d ≡ suc n → (bad5 v d ≡ false → Rule5 v d) × (Rule5 v d → bad5 v d ≡ false)
+by-count : (v : ℕ) (d : List ℕ) → 1 ≤ highest d → (n : ℕ) → highest d ≡ suc n
+    → (bad5 v d ≡ false → Rule5 v d) × (Rule5 v d → bad5 v d ≡ false)
 unfolding bad5 chain reached
-counted v d u n e = (holds, tested)
+by-count v d u n e = (holds, tested)
   where
     holds : not (filled v d (firstData d) (chainFrom (highest d) d 1)) ≡ false → Rule5 v d
     holds h =
@@ -110,12 +111,12 @@ counted v d u n e = (holds, tested)
               }),
         )
 
-one-more : (h : ℕ) → 1 ≤ h → (n : ℕ) × (h ≡ suc n)
-one-more zero l = absurd (omega arith)
-one-more (suc n) l = (n, refl)
+is-suc : (h : ℕ) → 1 ≤ h → (n : ℕ) × (h ≡ suc n)
+is-suc zero l = absurd (omega arith)
+is-suc (suc n) l = (n, refl)
 
 pub rule5-holds : (v : ℕ) (d : List ℕ) → 1 ≤ highest d → bad5 v d ≡ false → Rule5 v d
-rule5-holds v d u = let m = one-more (highest d) u in counted v d u (m .0) (m .1) .0
+rule5-holds v d u = let m = is-suc (highest d) u in by-count v d u (m .0) (m .1) .0
 
 pub rule5-tested : (v : ℕ) (d : List ℕ) → 1 ≤ highest d → Rule5 v d → bad5 v d ≡ false
-rule5-tested v d u = let m = one-more (highest d) u in counted v d u (m .0) (m .1) .1
+rule5-tested v d u = let m = is-suc (highest d) u in by-count v d u (m .0) (m .1) .1

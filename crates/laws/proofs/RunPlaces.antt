@@ -1,5 +1,5 @@
--- Runs as demand 2 says them, by places, and as Runs says them, by what stands before and after. The two are the same; and the slots that an
--- entry before a run takes are what an area there costs.
+-- Runs as demand 2 says them, by places, and as Runs says them, by what stands before and after. The two are the same; and the slots
+-- that an entry before a run takes are what an area there costs.
 use Prim.Native.Nat.{ℕ, zero, suc, _+_, _-_, _≤_, _<_, suc-le-suc}
 use mathlib.Core.Path.{_≡_, refl, sym, ap, _∙_, subst}
 use mathlib.Core.Logic.{_⊎_, inl, inr}
@@ -10,16 +10,15 @@ use native.Mathlib.Omega.{arith}
 use lib.ListN.{length, getD, take, drop, length-append, length-take, length-drop, take-append-drop, List·getD-append}
 use lib.Seq.{getD-take, getD-drop, getD-append-add, getD-append-seam, drop-drop, take-append-seam, drop-append-seam}
 use Rattle.bools.proofs.Bools.{never}
-use Rattle.meaning.specs.declared.Kind.{Kind}
 use Rattle.meaning.specs.declared.Kind.the-variants.{Tentative, Empty}
 use Rattle.meaning.specs.Kinds.{isTentative}
 use Rattle.meaning.specs.Words.{Entry, kind, total}
 use Rattle.meaning.specs.Enter.{isArea, costAfter}
 use Rattle.laws.specs.Order.{All}
 use Rattle.laws.specs.Room.{Run, joinedLength, Takes}
-use Rattle.laws.proofs.Keys.{tentative-kind}
-use Rattle.laws.proofs.Fine.{flag, empty-kind}
-use Rattle.laws.proofs.Runs.{opens, closes, IsArea, RunOf}
+use Rattle.walks.proofs.Told.{tentative-kind, empty-kind}
+use Rattle.laws.proofs.Fine.{flag}
+use Rattle.laws.proofs.Runs.{beginsArea, endsArea, IsArea, RunOf}
 
 -- all of a list, place by place
 places-all : (es : List Entry) → ((i : ℕ) → i < length es → kind (getD es i []) ≡ Empty) → All IsArea es
@@ -32,7 +31,7 @@ all-places (e ∷ es) a zero l = empty-kind (kind e) (a .0)
 all-places (e ∷ es) a (suc i) l = all-places es (a .1) i (le-of-suc-le-suc l)
 
 -- the last of the first few, and the first of the others
-closes-take : (es : List Entry) (i : ℕ) (p : Bool) → i < length es → closes p (take (suc i) es) ≡ isArea (getD es i [])
+closes-take : (es : List Entry) (i : ℕ) (p : Bool) → i < length es → endsArea p (take (suc i) es) ≡ isArea (getD es i [])
 closes-take [] i p l = absurd (not-suc-le-zero l)
 closes-take (e ∷ es) zero p l = refl
 closes-take (e ∷ es) (suc i) p l = closes-take es i (isArea e) (le-of-suc-le-suc l)
@@ -42,7 +41,7 @@ flag-take [] i p l = absurd (not-suc-le-zero l)
 flag-take (e ∷ es) zero p l = refl
 flag-take (e ∷ es) (suc i) p l = flag-take es i (isTentative (kind e)) (le-of-suc-le-suc l)
 
-opens-drop : (es : List Entry) (m : ℕ) → opens (drop m es) ≡ true → (m < length es) × (isArea (getD es m []) ≡ true)
+opens-drop : (es : List Entry) (m : ℕ) → beginsArea (drop m es) ≡ true → (m < length es) × (isArea (getD es m []) ≡ true)
 opens-drop [] zero h = absurd (false≢true h)
 opens-drop [] (suc m) h = absurd (false≢true h)
 opens-drop (e ∷ es) zero h = (omega arith, h)
@@ -61,7 +60,7 @@ run-piece es k n r =
             areas = places-all (take n (drop k es)) inside;
             some = omega (arith, long, r .some);
             calm-before = calm k (r .before) (omega (arith, r .within));
-            calm-after = never (opens (drop n (drop k es))) (after (r .after));
+            calm-after = never (beginsArea (drop n (drop k es))) (after (r .after));
           };
       sum = refl;
       flag = refl;
@@ -75,14 +74,14 @@ run-piece es k n r =
         let m : i < n = omega (arith, long) in
         rw (getD-take n (drop k es) i [] m, getD-drop k es i []) (r .empty i m)
 
-    calm : (j : ℕ) → (j ≡ 0) ⊎ (kind (getD es (j - 1) []) ≡ Empty → ⊥) → j ≤ length es → closes false (take j es) ≡ false
+    calm : (j : ℕ) → (j ≡ 0) ⊎ (kind (getD es (j - 1) []) ≡ Empty → ⊥) → j ≤ length es → endsArea false (take j es) ≡ false
     calm zero b l = refl
     calm (suc i) (inl e) l = absurd (omega arith)
     calm (suc i) (inr e) l =
         let s : suc i - 1 ≡ i = omega arith in
         closes-take es i false l ∙ never (isArea (getD es i [])) (λ t. rw s at e (empty-kind (kind (getD es i [])) t))
 
-    after : (k + n ≡ length es) ⊎ (kind (getD es (k + n) []) ≡ Empty → ⊥) → opens (drop n (drop k es)) ≡ true → ⊥
+    after : (k + n ≡ length es) ⊎ (kind (getD es (k + n) []) ≡ Empty → ⊥) → beginsArea (drop n (drop k es)) ≡ true → ⊥
     after b t = go b (opens-drop es (k + n) (rw (drop-drop n k es) at t))
       where
         go : (k + n ≡ length es) ⊎ (kind (getD es (k + n) []) ≡ Empty → ⊥) → (k + n < length es) × (isArea (getD es (k + n) []) ≡ true) → ⊥
@@ -90,11 +89,12 @@ run-piece es k n r =
         go (inr e) o = e (empty-kind (kind (getD es (k + n) [])) (o .1))
 
 -- from lists to places
-closes-last : (x : Entry) (xs : List Entry) (p : Bool) → closes p (x ∷ xs) ≡ isArea (getD (x ∷ xs) (length xs) [])
+closes-last : (x : Entry) (xs : List Entry) (p : Bool) → endsArea p (x ∷ xs) ≡ isArea (getD (x ∷ xs) (length xs) [])
 closes-last x [] p = refl
 closes-last x (y ∷ xs) p = closes-last y xs (isArea x)
 
-module _ (xs run ys : List Entry) (areas : All IsArea run) (some : 1 ≤ length run) (calm : closes false xs ≡ false) (free : opens ys ≡ false) where
+module _ (xs run ys : List Entry) (areas : All IsArea run) (some : 1 ≤ length run) (calm : endsArea false xs ≡ false)
+    (free : beginsArea ys ≡ false) where
   abbrev all : List Entry
   all = xs ++ (run ++ ys)
 
@@ -104,16 +104,18 @@ module _ (xs run ys : List Entry) (areas : All IsArea run) (some : 1 ≤ length 
   inside : (i : ℕ) → i < length run → kind (getD all (length xs + i) []) ≡ Empty
   inside i l = rw (getD-append-add xs (run ++ ys) i [], List·getD-append run ys [] i l) (all-places run areas i l)
 
-  before-is : (zs : List Entry) → closes false zs ≡ false → (length zs ≡ 0) ⊎ (kind (getD (zs ++ (run ++ ys)) (length zs - 1) []) ≡ Empty → ⊥)
+  before-is : (zs : List Entry) → endsArea false zs ≡ false
+      → (length zs ≡ 0) ⊎ (kind (getD (zs ++ (run ++ ys)) (length zs - 1) []) ≡ Empty → ⊥)
   before-is [] c = inl refl
   before-is (z ∷ zs) c =
       let e : suc (length zs) - 1 ≡ length zs = omega arith in
       inr
       (λ k.
-      let k′ : kind (getD (z ∷ zs) (length zs) []) ≡ Empty = rw (e, List·getD-append (z ∷ zs) (run ++ ys) [] (length zs) (omega arith)) at k in
+      let k′ : kind (getD (z ∷ zs) (length zs) [])
+      ≡ Empty = rw (e, List·getD-append (z ∷ zs) (run ++ ys) [] (length zs) (omega arith)) at k in
       false≢true (sym c ∙ closes-last z zs false ∙ (rw k′)))
 
-  after-is : (zs : List Entry) → opens zs ≡ false
+  after-is : (zs : List Entry) → beginsArea zs ≡ false
       → (length xs + length run ≡ length (xs ++ (run ++ zs))) ⊎ (kind (getD (xs ++ (run ++ zs)) (length xs + length run) []) ≡ Empty → ⊥)
   after-is [] o = inl (simp length-append (omega arith))
   after-is (z ∷ zs) o =
@@ -155,16 +157,16 @@ piece-run es n p r =
     })
 
 -- the slots: a tentative entry stands directly before place k
-abbrev Behind : List Entry → ℕ → Type 0
-Behind es k = (1 ≤ k) × (kind (getD es (k - 1) []) ≡ Tentative)
+abbrev AfterTentative : List Entry → ℕ → Type 0
+AfterTentative es k = (1 ≤ k) × (kind (getD es (k - 1) []) ≡ Tentative)
 
-flag-behind : (es : List Entry) (k : ℕ) → k ≤ length es → flag false (take k es) ≡ true → Behind es k
+flag-behind : (es : List Entry) (k : ℕ) → k ≤ length es → flag false (take k es) ≡ true → AfterTentative es k
 flag-behind es zero l h = absurd (false≢true h)
 flag-behind es (suc i) l h =
     let e : suc i - 1 ≡ i = omega arith in
     (omega arith, rw e (tentative-kind (kind (getD es i [])) (sym (flag-take es i false l) ∙ h)))
 
-behind-flag : (es : List Entry) (k : ℕ) → k ≤ length es → Behind es k → flag false (take k es) ≡ true
+behind-flag : (es : List Entry) (k : ℕ) → k ≤ length es → AfterTentative es k → flag false (take k es) ≡ true
 behind-flag es zero l h = absurd (omega (arith, h .0))
 behind-flag es (suc i) l h =
     let e : suc i - 1 ≡ i = omega arith in

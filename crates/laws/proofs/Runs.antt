@@ -1,6 +1,7 @@
--- Runs of neighbouring empty entries, and the areas that the tidy makes of them. Joining may be done apart on both sides of a place where no
--- two empty entries meet; a whole run joins to one area with its sum; and joined entries split only at such places. So each run with a sum
--- above 0 is one area of the tidied entries, as long, with a tentative entry before it if the run has one, and each such area is a run.
+-- Runs of neighbouring empty entries, and the areas that the tidy makes of them. Joining may be done apart on both sides of a place
+-- where no two empty entries meet; a whole run joins to one area with its sum; and joined entries split only at such places. So each
+-- run with a sum above 0 is one area of the tidied entries, as long, with a tentative entry before it if the run has one, and each such
+-- area is a run.
 use Prim.Native.Nat.{ℕ, _+_, _≤_}
 use mathlib.Core.Path.{_≡_, refl, sym, ap, _∙_, subst}
 use mathlib.Core.Bool.{Bool, true, false, cond, _&&_, not, false≢true, and-false}
@@ -16,18 +17,19 @@ use Rattle.meaning.specs.Words.{Entry, lengthWord, kind, blocks, total}
 use Rattle.meaning.specs.Enter.{isArea, joinTo, joined, dropZero, tidy}
 use Rattle.laws.specs.Order.{All}
 use Rattle.laws.proofs.Alls.{all-left, all-right}
-use Rattle.laws.proofs.Fine.{flag, empty-kind}
+use Rattle.laws.proofs.Fine.{flag}
+use Rattle.walks.proofs.Told.{empty-kind}
 use Rattle.laws.proofs.Rendered.{Words, Wide}
 use Rattle.laws.proofs.Tidying.{resized, joined-tidier, drop-tidier}
 
 -- entries that begin with an empty one; and that end with one, where p says it of the one before them
-abbrev pub opens : List Entry → Bool
-opens [] = false
-opens (e ∷ es) = isArea e
+abbrev pub beginsArea : List Entry → Bool
+beginsArea [] = false
+beginsArea (e ∷ es) = isArea e
 
-abbrev pub closes : Bool → List Entry → Bool
-closes p [] = p
-closes p (e ∷ es) = closes (isArea e) es
+abbrev pub endsArea : Bool → List Entry → Bool
+endsArea p [] = p
+endsArea p (e ∷ es) = endsArea (isArea e) es
 
 abbrev pub IsArea : Entry → Type 0
 IsArea e = isArea e ≡ true
@@ -40,8 +42,8 @@ pub record Piece (es : List Entry) : Type 0 where
   pub are : es ≡ before ++ (run ++ after)
   pub areas : All IsArea run
   pub some : 1 ≤ length run
-  pub calm-before : closes false before ≡ false
-  pub calm-after : opens after ≡ false
+  pub calm-before : endsArea false before ≡ false
+  pub calm-after : beginsArea after ≡ false
 
 -- an area among entries, of a length, after a tentative entry or not
 pub record AreaIn (es : List Entry) (n : ℕ) (p : Bool) : Type 0 where
@@ -60,7 +62,7 @@ pub record RunOf (es : List Entry) (n : ℕ) (p : Bool) : Type 0 where
   pub flag : flag false (piece .before) ≡ p
 
 -- one entry joined to others
-join-none : (e : Entry) (ts : List Entry) → isArea e && opens ts ≡ false → joinTo e ts ≡ e ∷ ts
+join-none : (e : Entry) (ts : List Entry) → isArea e && beginsArea ts ≡ false → joinTo e ts ≡ e ∷ ts
 join-none e [] h = refl
 join-none e (f ∷ fs) h = rw h
 
@@ -98,7 +100,7 @@ no-cons : {e : Entry} {es : List Entry} → _≡_ {A = List Entry} [] (e ∷ es)
 no-cons h = let z = ap length h in omega arith
 
 -- one area with the sum of a run
-record One (run ts : List Entry) : Type 0 where
+record OneArea (run ts : List Entry) : Type 0 where
   here : Entry
   is : ts ≡ here ∷ []
   area : isArea here ≡ true
@@ -106,24 +108,24 @@ record One (run ts : List Entry) : Type 0 where
 
 module _ (w : ℕ) (enough : 7 ≤ w) where
   -- joined entries begin with an empty one if the entries do
-  join-opens : (e : Entry) (ts : List Entry) → length e ≡ w → opens (joinTo e ts) ≡ isArea e
+  join-opens : (e : Entry) (ts : List Entry) → length e ≡ w → beginsArea (joinTo e ts) ≡ isArea e
   join-opens e [] l = refl
   join-opens e (f ∷ fs) l = go (isArea e && isArea f)
     where
       x : Entry
       x = set e lengthWord (blocks e + blocks f)
 
-      go : (z : Bool) → opens (cond z (x ∷ fs) (e ∷ f ∷ fs)) ≡ isArea e
+      go : (z : Bool) → beginsArea (cond z (x ∷ fs) (e ∷ f ∷ fs)) ≡ isArea e
       go true = rw (resized w enough e (blocks e + blocks f) l .kind)
       go false = refl
 
-  joined-opens : (es : List Entry) → Wide w es → opens (joined es) ≡ opens es
+  joined-opens : (es : List Entry) → Wide w es → beginsArea (joined es) ≡ beginsArea es
   unfolding joined
   joined-opens [] a = refl
   joined-opens (e ∷ es) a = join-opens e (joined es) (a .0)
 
   -- joined apart, where no two empty entries meet
-  joined-apart : (xs ys : List Entry) → Wide w ys → closes false xs && opens ys ≡ false → joined (xs ++ ys) ≡ joined xs ++ joined ys
+  joined-apart : (xs ys : List Entry) → Wide w ys → endsArea false xs && beginsArea ys ≡ false → joined (xs ++ ys) ≡ joined xs ++ joined ys
   unfolding joined
   joined-apart [] ys a h = refl
   joined-apart (x ∷ []) ys a h = join-none x (joined ys) (rw (joined-opens ys a) h)
@@ -133,7 +135,7 @@ module _ (w : ℕ) (enough : 7 ≤ w) where
       ap (joinTo x) i ∙ (rw (c .are) (join-append x (c .head) (c .rest) (joined ys)))
 
   -- a whole run
-  joined-run : (es : List Entry) → 1 ≤ length es → All IsArea es → Wide w es → One es (joined es)
+  joined-run : (es : List Entry) → 1 ≤ length es → All IsArea es → Wide w es → OneArea es (joined es)
   unfolding joined total
   joined-run [] s a l = absurd (omega arith)
   joined-run (e ∷ []) s a l = record { here = e; is = refl; area = a .0; size = sym (add-zero (blocks e)) }
@@ -171,10 +173,10 @@ module _ (w : ℕ) (enough : 7 ≤ w) where
       wide-rest : Wide w (c .run ++ c .after)
       wide-rest = all-right (Words w) (c .before) (c .run ++ c .after) wide-all
 
-      apart : closes false (c .run) && opens (c .after) ≡ false
-      apart = rw (c .calm-after) (and-false (closes false (c .run)))
+      apart : endsArea false (c .run) && beginsArea (c .after) ≡ false
+      apart = rw (c .calm-after) (and-false (endsArea false (c .run)))
 
-      o : One (c .run) (joined (c .run))
+      o : OneArea (c .run) (joined (c .run))
       o = joined-run (c .run) (c .some) (c .areas) (all-left (Words w) (c .run) (c .after) wide-rest)
 
 -- zeros dropped on both sides of a place
@@ -243,7 +245,7 @@ record Parts (es xs ys : List Entry) : Type 0 where
   are : es ≡ before ++ rest
   front : joined before ≡ xs
   back : joined rest ≡ ys
-  apart : closes false before && opens rest ≡ false
+  apart : endsArea false before && beginsArea rest ≡ false
 
 -- a run and what is left after it
 record Span (es : List Entry) : Type 0 where
@@ -251,7 +253,7 @@ record Span (es : List Entry) : Type 0 where
   after : List Entry
   are : es ≡ run ++ after
   areas : All IsArea run
-  calm : opens after ≡ false
+  calm : beginsArea after ≡ false
 
 span : (es : List Entry) → Span es
 span [] = record { run = []; after = []; are = refl; areas = tt; calm = refl }
@@ -268,16 +270,16 @@ span (e ∷ es) = go (isArea e) refl (span es)
         }
     go false z s = record { run = []; after = e ∷ es; are = refl; areas = tt; calm = z }
 
-span-some : (es : List Entry) (s : Span es) → opens es ≡ true → 1 ≤ length (s .run)
+span-some : (es : List Entry) (s : Span es) → beginsArea es ≡ true → 1 ≤ length (s .run)
 span-some es s h = go (s .run) (s .are)
   where
     go : (r : List Entry) → es ≡ r ++ s .after → 1 ≤ length r
-    go [] e = absurd (false≢true (sym (ap opens e ∙ s .calm) ∙ h))
+    go [] e = absurd (false≢true (sym (ap beginsArea e ∙ s .calm) ∙ h))
     go (x ∷ r) e = omega arith
 
 module _ (w : ℕ) (enough : 7 ≤ w) where
   -- one entry more before parts
-  beside : (e : Entry) (es xs ys : List Entry) → Wide w (e ∷ es) → (p : Parts es xs ys) → isArea e && opens (xs ++ ys) ≡ false
+  beside : (e : Entry) (es xs ys : List Entry) → Wide w (e ∷ es) → (p : Parts es xs ys) → isArea e && beginsArea (xs ++ ys) ≡ false
       → Parts (e ∷ es) (e ∷ xs) ys
   unfolding joined
   beside e es xs ys a p h =
@@ -290,12 +292,12 @@ module _ (w : ℕ) (enough : 7 ≤ w) where
         apart = go (p .before) (p .are) (p .front) (p .apart);
       }
     where
-      first : (zs : List Entry) → isArea e && opens (zs ++ ys) ≡ false → isArea e && opens zs ≡ false
+      first : (zs : List Entry) → isArea e && beginsArea (zs ++ ys) ≡ false → isArea e && beginsArea zs ≡ false
       first [] g = and-false (isArea e)
       first (z ∷ zs) g = g
 
-      go : (bs : List Entry) → es ≡ bs ++ p .rest → joined bs ≡ xs → closes false bs && opens (p .rest) ≡ false
-          → closes (isArea e) bs && opens (p .rest) ≡ false
+      go : (bs : List Entry) → es ≡ bs ++ p .rest → joined bs ≡ xs → endsArea false bs && beginsArea (p .rest) ≡ false
+          → endsArea (isArea e) bs && beginsArea (p .rest) ≡ false
       go [] i j k =
           let o = joined-opens w enough (p .rest) (subst (Wide w) i (a .1)) in
           rw (← o, p .back) (rw (← j) at h)
@@ -314,7 +316,8 @@ module _ (w : ℕ) (enough : 7 ≤ w) where
         apart = go (p .before) (p .front) (p .apart);
       }
     where
-      go : (bs : List Entry) → joined bs ≡ f ∷ xs → closes false bs && opens (p .rest) ≡ false → closes (isArea e) bs && opens (p .rest) ≡ false
+      go : (bs : List Entry) → joined bs ≡ f ∷ xs → endsArea false bs && beginsArea (p .rest) ≡ false
+          → endsArea (isArea e) bs && beginsArea (p .rest) ≡ false
       go [] j k = absurd (no-cons j)
       go (b ∷ bs) j k = k
 
@@ -324,16 +327,17 @@ module _ (w : ℕ) (enough : 7 ≤ w) where
   joined-parts [] a (x ∷ xs) ys h = absurd (no-cons h)
   joined-parts (e ∷ es) a [] ys h = record { before = []; rest = e ∷ es; are = refl; front = refl; back = h; apart = refl }
   joined-parts (e ∷ es) a (x ∷ xs) ys h =
-      go (joined es) (isArea e && opens (joined es)) refl refl (λ us vs. joined-parts es (a .1) us vs) h
+      go (joined es) (isArea e && beginsArea (joined es)) refl refl (λ us vs. joined-parts es (a .1) us vs) h
     where
-      go : (js : List Entry) (z : Bool) → joined es ≡ js → isArea e && opens js ≡ z → ((us vs : List Entry) → joined es ≡ us ++ vs → Parts es us vs)
+      go : (js : List Entry) (z : Bool) → joined es ≡ js → isArea e && beginsArea js ≡ z
+          → ((us vs : List Entry) → joined es ≡ us ++ vs → Parts es us vs)
           → joinTo e js ≡ x ∷ (xs ++ ys) → Parts (e ∷ es) (x ∷ xs) ys
       go js false q t i g =
           let g′ : e ∷ js ≡ x ∷ (xs ++ ys) = sym (join-none e js t) ∙ g in
           let u : e ≡ x = cc in
           let v : js ≡ xs ++ ys = cc in
           subst (λ (x : Entry). Parts (e ∷ es) (x ∷ xs) ys) u
-          (beside e es xs ys a (i xs ys (q ∙ v)) (subst (λ (l : List Entry). isArea e && opens l ≡ false) v t))
+          (beside e es xs ys a (i xs ys (q ∙ v)) (subst (λ (l : List Entry). isArea e && beginsArea l ≡ false) v t))
       go [] true q t i g = absurd (false≢true (sym (and-false (isArea e)) ∙ t))
       go (f ∷ fs) true q t i g =
           let g′ : set e lengthWord (blocks e + blocks f) ∷ fs ≡ x ∷ (xs ++ ys) = sym (join-both e f fs t) ∙ g in
@@ -380,7 +384,7 @@ module _ (w : ℕ) (enough : 7 ≤ w) where
               are = q .are ∙ ap (λ (l : List Entry). q .before ++ l) (s .are);
               areas = s .areas;
               some = span-some (q .rest) s begins;
-              calm-before = one-false (closes false (q .before)) (opens (q .rest)) (q .apart) begins;
+              calm-before = one-false (endsArea false (q .before)) (beginsArea (q .rest)) (q .apart) begins;
               calm-after = s .calm;
             };
         sum = sym (o .size) ∙ ap blocks same ∙ r .size;
@@ -409,21 +413,21 @@ module _ (w : ℕ) (enough : 7 ≤ w) where
       wide-run : Wide w (s .run ++ s .after)
       wide-run = subst (Wide w) (s .are) wide-rest
 
-      begins : opens (q .rest) ≡ true
-      begins = sym (joined-opens w enough (q .rest) wide-rest) ∙ ap opens (q .back) ∙ r .area
+      begins : beginsArea (q .rest) ≡ true
+      begins = sym (joined-opens w enough (q .rest) wide-rest) ∙ ap beginsArea (q .back) ∙ r .area
 
       one-false : (x y : Bool) → x && y ≡ false → y ≡ true → x ≡ false
       one-false false y h t = refl
       one-false true y h t = absurd (false≢true (sym h ∙ t))
 
-      o : One (s .run) (joined (s .run))
+      o : OneArea (s .run) (joined (s .run))
       o = joined-run w enough (s .run) (span-some (q .rest) s begins) (s .areas) (all-left (Words w) (s .run) (s .after) wide-run)
 
       same : o .here ≡ r .here
       same =
           let j =
           joined-apart w enough (s .run) (s .after) (all-right (Words w) (s .run) (s .after) wide-run)
-          (rw (s .calm) (and-false (closes false (s .run)))) in
+          (rw (s .calm) (and-false (endsArea false (s .run)))) in
           let e : joined (q .rest) ≡ joined (s .run) ++ joined (s .after) = ap joined (s .are) ∙ j in
           let i = ap (λ (x : List Entry). x ++ joined (s .after)) (sym (o .is)) in
           let f : (o .here ∷ []) ++ joined (s .after) ≡ r .here ∷ l .after = i ∙ sym e ∙ q .back in

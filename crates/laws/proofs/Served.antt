@@ -11,8 +11,9 @@ use Rattle.meaning.specs.Sound.{fault}
 use Rattle.meaning.specs.Answers.{Outcome, find, write}
 use Rattle.meaning.specs.Requests.{finalLength}
 use Rattle.meaning.specs.Batch.{serveBy, serve}
-use Rattle.laws.specs.Order.{InBatch, Key, openFor, NamesBy, Names}
-use Rattle.laws.proofs.Keys.{holds}
+use Rattle.meaning.specs.declared.Key.{Key}
+use Rattle.meaning.specs.Keys.{holds}
+use Rattle.laws.specs.Order.{InBatch, openFor, NamesBy, Names}
 use Rattle.laws.proofs.Soundness.{Sound, sound, faultless}
 use Rattle.laws.proofs.Rows.{standing}
 use Rattle.laws.proofs.Keeps.{stays-sound, found-other}
@@ -27,10 +28,8 @@ planBy Lookup d q = refused 0
 planBy Enter d q = refused 0
 planBy Close d q = closePlan d (q .job) (q .channel) (finalLength (q .«final_length»))
 planBy Abandon d q = abandonPlan d (q .job) (q .channel)
-planBy Delete d q = deletePlan d (q .name .first) (q .name .second) (q .name .extension)
-planBy Rename d q =
-    renamePlan d (q .name .first) (q .name .second) (q .name .extension) (q .«new_name» .first) (q .«new_name» .second)
-    (q .«new_name» .extension)
+planBy Delete d q = deletePlan d (q .name)
+planBy Rename d q = renamePlan d (q .name) (q .«new_name»)
 
 unfoldable pub plan : List ℕ → Request → Plan
 plan d q = planBy (q .op) d q
@@ -41,10 +40,8 @@ served-by Lookup v d q b h = absurd b
 served-by Enter v d q b h = absurd b
 served-by Close v d q b h = close-is v d h (q .job) (q .channel) (q .«final_length»)
 served-by Abandon v d q b h = abandon-is v d h (q .job) (q .channel)
-served-by Delete v d q b h = delete-is v d h (q .name .first) (q .name .second) (q .name .extension)
-served-by Rename v d q b h =
-    rename-is v d h (q .name .first) (q .name .second) (q .name .extension) (q .«new_name» .first) (q .«new_name» .second)
-    (q .«new_name» .extension)
+served-by Delete v d q b h = delete-is v d h (q .name)
+served-by Rename v d q b h = rename-is v d h (q .name) (q .«new_name»)
 
 pub served : (v : ℕ) (d : List ℕ) (q : Request) → InBatch (q .op) → fault v d ≡ 0 → serve v d q ≡ carried d (plan d q)
 unfolding serve plan
@@ -57,10 +54,8 @@ module _ (v : ℕ) (d : List ℕ) (s : Sound v d) where
   good-by Enter q = nothing-good d (standing v d s) (NamesBy Enter d q)
   good-by Close q = close-good v d s (q .job) (q .channel) (finalLength (q .«final_length»))
   good-by Abandon q = abandon-good v d s (q .job) (q .channel)
-  good-by Delete q = delete-good v d s (q .name .first) (q .name .second) (q .name .extension)
-  good-by Rename q =
-      rename-good v d s (q .name .first) (q .name .second) (q .name .extension) (q .«new_name» .first) (q .«new_name» .second)
-      (q .«new_name» .extension)
+  good-by Delete q = delete-good v d s (q .name)
+  good-by Rename q = rename-good v d s (q .name) (q .«new_name»)
 
   pub plan-good : (q : Request) → Good d (Names d q) (plan d q .writes)
   unfolding Names plan

@@ -20,9 +20,9 @@ past n m true r x h = absurd (x h)
 past n m false r x h = (refl, h)
 
 -- from rule n on comes 0, or a number from n on
-from : (n m : ℕ) (t : Bool) (r : ℕ) → (r ≡ m → (m ≡ 0) ⊎ (n < m)) → rule n t (λ _. r) ≡ m → (m ≡ 0) ⊎ (n ≤ m)
-from n m true r x h = inr (omega arith)
-from n m false r x h = ⊎-elim inl (λ l. inr (omega arith)) (x h)
+on-from : (n m : ℕ) (t : Bool) (r : ℕ) → (r ≡ m → (m ≡ 0) ⊎ (n < m)) → rule n t (λ _. r) ≡ m → (m ≡ 0) ⊎ (n ≤ m)
+on-from n m true r x h = inr (omega arith)
+on-from n m false r x h = ⊎-elim inl (λ l. inr (omega arith)) (x h)
 
 -- n itself comes from rule n, where what comes after it is 0 or greater
 stop : (n : ℕ) (t : Bool) (r : ℕ) → 0 < n → (r ≡ n → (n ≡ 0) ⊎ (n < n)) → rule n t (λ _. r) ≡ n → t ≡ true
@@ -56,23 +56,23 @@ module _ (v : ℕ) (d : List ℕ) where
 
   from6 : (m : ℕ) → after5 ≡ m → (m ≡ 0) ⊎ (6 ≤ m)
   unfolding after5
-  from6 m = from 6 m (bad6 d) 0 (λ e. inl (sym e))
+  from6 m = on-from 6 m (bad6 d) 0 (λ e. inl (sym e))
 
   from5 : (m : ℕ) → after4 ≡ m → (m ≡ 0) ⊎ (5 ≤ m)
   unfolding after4
-  from5 m = from 5 m (bad5 v d) after5 (from6 m)
+  from5 m = on-from 5 m (bad5 v d) after5 (from6 m)
 
   from4 : (m : ℕ) → after3 ≡ m → (m ≡ 0) ⊎ (4 ≤ m)
   unfolding after3
-  from4 m = from 4 m (bad4 d) after4 (from5 m)
+  from4 m = on-from 4 m (bad4 d) after4 (from5 m)
 
   from3 : (m : ℕ) → after2 ≡ m → (m ≡ 0) ⊎ (3 ≤ m)
   unfolding after2
-  from3 m = from 3 m (bad3 d) after3 (from4 m)
+  from3 m = on-from 3 m (bad3 d) after3 (from4 m)
 
   from2 : (m : ℕ) → after1 ≡ m → (m ≡ 0) ⊎ (2 ≤ m)
   unfolding after1
-  from2 m = from 2 m (bad2 d) after2 (from3 m)
+  from2 m = on-from 2 m (bad2 d) after2 (from3 m)
 
   -- a number other than 1, .. k comes from after rule k
   to1 : (m : ℕ) → (1 ≡ m → ⊥) → fault v d ≡ m → (Rule1 v d) × (after1 ≡ m)
@@ -95,9 +95,9 @@ module _ (v : ℕ) (d : List ℕ) where
   unfolding after4
   to5 m r x h = let p = past 5 m (bad5 v d) after5 x h in (rule5-holds v d (r .used) (p .0), p .1)
 
-  is-sound : (fault v d ≡ 0) ↔ Rules v d
+  is-none : (fault v d ≡ 0) ↔ Rules v d
   unfolding fault after5
-  is-sound = (
+  is-none = (
     λ h.
         let p = to1 0 (λ e. omega arith) h in
         let q = to2 0 (λ e. omega arith) (p .1) in
@@ -246,4 +246,4 @@ module _ (v : ℕ) (d : List ℕ) where
 
   pub exactly : Exactly v d
   exactly =
-      record { sound = is-sound; one = is-one; two = is-two; three = is-three; four = is-four; five = is-five; six = is-six }
+      record { sound = is-none; one = is-one; two = is-two; three = is-three; four = is-four; five = is-five; six = is-six }

@@ -17,9 +17,11 @@ use Rattle.walks.specs.Links.{linked}
 use Rattle.walks.specs.Scan.{scanBad}
 use Rattle.walks.proofs.Linked.{bad3-walk}
 use Rattle.walks.proofs.Scanned.{bad-scan}
-use Rattle.laws.specs.Order.{Key, All}
+use Rattle.meaning.specs.declared.Key.{Key}
+use Rattle.meaning.specs.Keys.{holds, once}
+use Rattle.laws.specs.Order.{All}
 use Rattle.laws.proofs.Rule5.{rule1-holds, rule2-holds}
-use Rattle.laws.proofs.Keys.{holds, count, few, no-clash}
+use Rattle.laws.proofs.Keys.{count, few, no-clash}
 
 -- the slots of segment s, and that they are readable (rule 4)
 abbrev pub slotsOf : List ℕ → ℕ → List Entry
@@ -34,7 +36,7 @@ pub record Sound (v : ℕ) (d : List ℕ) : Type 0 where
   pub links : linked (highest d) d 1 ≡ true
   pub readable : All (Readable d) (chain d)
   pub full : filled v d (firstData d) (chain d) ≡ true
-  pub keys : (k : Key) → count (holds k) (allEntries d) ≤ 1
+  pub keys : (k : Key) → once k ≡ true → count (holds k) (allEntries d) ≤ 1
 
 readable-all : (d : List ℕ) (ss : List ℕ) → any (λ s. badSlots (slotsOf d s)) ss ≡ false → All (Readable d) ss
 unfolding any

@@ -12,19 +12,22 @@ use lib.ListN.{getD}
 use Rattle.meaning.specs.declared.Op.{Op}
 use Rattle.meaning.specs.declared.Op.the-variants.{Lookup, Enter, Close, Abandon, Delete, Rename}
 use Rattle.meaning.specs.declared.Request.{Request}
-use Rattle.meaning.specs.Words.{slotWords, lengthWord, blocks, Row}
+use Rattle.meaning.specs.declared.Name.{Name}
+use Rattle.meaning.specs.Words.{slotWords, lengthWord, nameOf, blocks, Row}
 use Rattle.meaning.specs.Sound.{fault}
 use Rattle.meaning.specs.Answers.{fileOf, openOn, Write, write}
 use Rattle.meaning.specs.Requests.{emptying, goodChannel, wordOf, closing, finalLength}
 use Rattle.meaning.specs.Batch.{serve}
-use Rattle.laws.specs.Order.{InBatch, Key, file, channel, fileOfRow, openFor, NamesBy, Names, Apart, All}
+use Rattle.meaning.specs.declared.Key.{Key}
+use Rattle.meaning.specs.declared.Key.the-variants.{File, Open}
+use Rattle.laws.specs.Order.{InBatch, openFor, NamesBy, Names, Apart, All}
 use Rattle.laws.proofs.Grid.{OnGrid, far, entryAt}
 use Rattle.laws.proofs.Writes.{Fit, word-write, write-comm}
 use Rattle.laws.proofs.Keys.{one-key, empty-holds, is-open}
 use Rattle.laws.proofs.Soundness.{Sound, sound, faultless}
 use Rattle.laws.proofs.Move.{width-same}
 use Rattle.laws.proofs.Good.{Owned, mine, after, Owns}
-use Rattle.laws.proofs.Plans.{carried, done, given, found, closedPlan, deletePlan, abandonPlan, renamePlan, closePlan}
+use Rattle.laws.proofs.Plans.{carried, done, testing, finding, closedPlan, deletePlan, abandonPlan, renamePlan, closePlan}
 use Rattle.laws.proofs.Deeds.{file-key, open-key, found-by, openAt, CloseNames, AbandonNames, open-at}
 use Rattle.laws.proofs.Served.{planBy, plan, plan-good, plan-found, plan-kept, served, serve-words}
 
@@ -36,16 +39,16 @@ opened d job ch r = go (goodChannel job ch) (openOn d (wordOf job ch))
     go true o h = h
     go false o h = cc
 
-close-names : (x y : ℕ) (o : Option Row) → CloseNames x o (channel y) → (x ≡ y) × ((r : Row) × (o ≡ some r))
+close-names : (x y : ℕ) (o : Option Row) → CloseNames x o (Open y) → (x ≡ y) × ((r : Row) × (o ≡ some r))
 close-names x y none n = absurd n
 close-names x y (some r) (inl e) = (cc, (r, refl))
 close-names x y (some r) (inr e) = absurd (let z : _≡_ {A = ℕ} 0 1 = cc in omega arith)
 
-abandon-names : (x y : ℕ) (o : Option Row) → AbandonNames x o (channel y) → (x ≡ y) × ((r : Row) × (o ≡ some r))
+abandon-names : (x y : ℕ) (o : Option Row) → AbandonNames x o (Open y) → (x ≡ y) × ((r : Row) × (o ≡ some r))
 abandon-names x y none n = absurd n
 abandon-names x y (some r) e = (cc, (r, refl))
 
-named-open : (op : Op) (d : List ℕ) (q : Request) (y : ℕ) → NamesBy op d q (channel y) → (r : Row) × (openOn d y ≡ some r)
+named-open : (op : Op) (d : List ℕ) (q : Request) (y : ℕ) → NamesBy op d q (Open y) → (r : Row) × (openOn d y ≡ some r)
 unfolding openFor
 named-open Lookup d q y n = absurd n
 named-open Enter d q y n = absurd n
@@ -60,12 +63,12 @@ named-open Rename d q y (inl n) = absurd (let z : _≡_ {A = ℕ} 0 1 = cc in om
 named-open Rename d q y (inr n) = absurd (let z : _≡_ {A = ℕ} 0 1 = cc in omega arith)
 
 close-named : (d : List ℕ) (job ch : ℕ) (r : Row) → goodChannel job ch ≡ true → openOn d (wordOf job ch) ≡ some r
-    → CloseNames (wordOf job ch) (openAt d job ch) (channel (wordOf job ch))
-    × CloseNames (wordOf job ch) (openAt d job ch) (fileOfRow r)
+    → CloseNames (wordOf job ch) (openAt d job ch) (Open (wordOf job ch))
+    × CloseNames (wordOf job ch) (openAt d job ch) (File (nameOf (r .entry)))
 close-named d job ch r i e = rw (open-at d job ch r i e) (inl refl, inr refl)
 
 abandon-named : (d : List ℕ) (job ch : ℕ) (r : Row) → goodChannel job ch ≡ true → openOn d (wordOf job ch) ≡ some r
-    → AbandonNames (wordOf job ch) (openAt d job ch) (channel (wordOf job ch))
+    → AbandonNames (wordOf job ch) (openAt d job ch) (Open (wordOf job ch))
 abandon-named d job ch r i e = rw (open-at d job ch r i e) refl
 
 -- keys of the one are not keys of the other
@@ -113,20 +116,20 @@ module _ (v : ℕ) (d : List ℕ) (s : Sound v d) (p : Request) where
   abbrev d1 : List ℕ
   d1 = write d (plan d p .writes)
 
-  file-same : (a b c : ℕ) → (Names d p (file a b c) → ⊥) → fileOf d1 a b c ≡ fileOf d a b c
-  file-same a b c out = file-key d1 a b c ∙ plan-found v d s p (file a b c) out ∙ sym (file-key d a b c)
+  file-same : (n : Name) → (Names d p (File n) → ⊥) → fileOf d1 n ≡ fileOf d n
+  file-same n out = file-key d1 n ∙ plan-found v d s p (File n) out ∙ sym (file-key d n)
 
   -- a channel that another names if it is open
-  open-same : (D : Key → Type 0) → Disjoint (Names d p) D → (y : ℕ) → ((r : Row) → openOn d y ≡ some r → D (channel y))
+  open-same : (D : Key → Type 0) → Disjoint (Names d p) D → (y : ℕ) → ((r : Row) → openOn d y ≡ some r → D (Open y))
       → openOn d1 y ≡ openOn d y
   unfolding Names
   open-same D no-both y names =
       open-key d1 y
-      ∙ plan-found v d s p (channel y) (λ n. let x = named-open (p .op) d p y n in no-both (channel y) n (names (x .0) (x .1)))
+      ∙ plan-found v d s p (Open y) (λ n. let x = named-open (p .op) d p y n in no-both (Open y) n (names (x .0) (x .1)))
       ∙ sym (open-key d y)
 
   open-at-same : (D : Key → Type 0) → Disjoint (Names d p) D → (job ch : ℕ)
-      → ((r : Row) → goodChannel job ch ≡ true → openOn d (wordOf job ch) ≡ some r → D (channel (wordOf job ch)))
+      → ((r : Row) → goodChannel job ch ≡ true → openOn d (wordOf job ch) ≡ some r → D (Open (wordOf job ch)))
       → openAt d1 job ch ≡ openAt d job ch
   open-at-same D no-both job ch names = go (goodChannel job ch) refl
     where
@@ -135,18 +138,18 @@ module _ (v : ℕ) (d : List ℕ) (s : Sound v d) (p : Request) where
       go false i = refl
 
   -- the length of the entry after a tentative one that another names
-  next-same : (D : Key → Type 0) → Disjoint (Names d p) D → (y : ℕ) → D (channel y) → (r : Row) → openOn d y ≡ some r
+  next-same : (D : Key → Type 0) → Disjoint (Names d p) D → (y : ℕ) → D (Open y) → (r : Row) → openOn d y ≡ some r
       → getD d1 (r .at + slotWords d + lengthWord) 0 ≡ getD d (r .at + slotWords d + lengthWord) 0
   next-same D no-both y named r e =
-      let f = found-by v d s (channel y) r (sym (open-key d y) ∙ e) in
-      let x = f .stand .next (is-open y (r .entry) (f .has) .kept) in
+      let f = found-by v d s (Open y) r (sym (open-key d y) ∙ e) in
+      let x = f .stand .next (is-open y (r .entry) (f .has) .tentative) in
       let g = plan-good v d s p in
       word-write (plan d p .writes) d (r .at + slotWords d + lengthWord)
       (clear d (Names d p) D no-both 4 (r .at + slotWords d) (x .0 .on) (omega arith)
-      (after (channel y) (r .at) named (rw (f .stand .is) at (f .has)) refl (x .1))
+      (after (Open y) (r .at) named (rw (f .stand .is) at (f .has)) refl (x .1))
       (plan d p .writes) (g .fit) (g .own))
 
-  closing-same : (D : Key → Type 0) → Disjoint (Names d p) D → (y : ℕ) → D (channel y) → (r : Row) → D (fileOfRow r)
+  closing-same : (D : Key → Type 0) → Disjoint (Names d p) D → (y : ℕ) → D (Open y) → (r : Row) → D (File (nameOf (r .entry)))
       → openOn d y ≡ some r
       → (n : ℕ) → closing d1 r n ≡ closing d r n
   unfolding closing
@@ -155,7 +158,7 @@ module _ (v : ℕ) (d : List ℕ) (s : Sound v d) (p : Request) where
       rw (
         width-same (Names d p) (g .fall) d d1 (g .move),
         next-same D no-both y named r e,
-        file-same (getD (r .entry) 1 0) (getD (r .entry) 2 0) (getD (r .entry) 3 0) (λ m. no-both (fileOfRow r) m made),
+        file-same (nameOf (r .entry)) (λ m. no-both (File (nameOf (r .entry))) m made),
       )
 
   close-same : (job ch : ℕ) → Disjoint (Names d p) (CloseNames (wordOf job ch) (openAt d job ch)) → (n : Option ℕ)
@@ -174,13 +177,13 @@ module _ (v : ℕ) (d : List ℕ) (s : Sound v d) (p : Request) where
           rw (closing-same D no-both (wordOf job ch) (x .0) r (x .1) e m)
 
       at-row : goodChannel job ch ≡ true → (o : Option Row) → openOn d (wordOf job ch) ≡ o
-          → found 15 o (λ r. closedPlan d1 r n) ≡ found 15 o (λ r. closedPlan d r n)
+          → finding 15 o (λ r. closedPlan d1 r n) ≡ finding 15 o (λ r. closedPlan d r n)
       at-row i none e = refl
       at-row i (some r) e = closed-same i r e n
 
       go : (b : Bool) → goodChannel job ch ≡ b
-          → given 8 b (found 15 (openOn d1 (wordOf job ch)) (λ r. closedPlan d1 r n))
-          ≡ given 8 b (found 15 (openOn d (wordOf job ch)) (λ r. closedPlan d r n))
+          → testing 8 b (finding 15 (openOn d1 (wordOf job ch)) (λ r. closedPlan d1 r n))
+          ≡ testing 8 b (finding 15 (openOn d (wordOf job ch)) (λ r. closedPlan d r n))
       go true i =
           rw (open-same D no-both (wordOf job ch) (λ r e. close-named d job ch r i e .0))
           (at-row i (openOn d (wordOf job ch)) refl)
@@ -195,8 +198,8 @@ module _ (v : ℕ) (d : List ℕ) (s : Sound v d) (p : Request) where
       D = AbandonNames (wordOf job ch) (openAt d job ch)
 
       go : (b : Bool) → goodChannel job ch ≡ b
-          → given 8 b (found 15 (openOn d1 (wordOf job ch)) (λ r. done r (blocks (r .entry)) (emptying r)))
-          ≡ given 8 b (found 15 (openOn d (wordOf job ch)) (λ r. done r (blocks (r .entry)) (emptying r)))
+          → testing 8 b (finding 15 (openOn d1 (wordOf job ch)) (λ r. done r (blocks (r .entry)) (emptying r)))
+          ≡ testing 8 b (finding 15 (openOn d (wordOf job ch)) (λ r. done r (blocks (r .entry)) (emptying r)))
       go true i = rw (open-same D no-both (wordOf job ch) (λ r e. abandon-named d job ch r i e))
       go false i = refl
 
@@ -206,11 +209,11 @@ module _ (v : ℕ) (d : List ℕ) (s : Sound v d) (p : Request) where
   same-by Enter q no-both = refl
   same-by Close q no-both = close-same (q .job) (q .channel) no-both (finalLength (q .«final_length»))
   same-by Abandon q no-both = abandon-same (q .job) (q .channel) no-both
-  same-by Delete q no-both = rw (file-same _ _ _ (λ n. no-both _ n refl))
+  same-by Delete q no-both = rw (file-same (q .name) (λ n. no-both _ n refl))
   same-by Rename q no-both =
       rw (
-        file-same (q .name .first) (q .name .second) (q .name .extension) (λ n. no-both _ n (inl refl)),
-        file-same (q .«new_name» .first) (q .«new_name» .second) (q .«new_name» .extension) (λ n. no-both _ n (inr refl)),
+        file-same (q .name) (λ n. no-both _ n (inl refl)),
+        file-same (q .«new_name») (λ n. no-both _ n (inr refl)),
       )
 
   -- the other has the same plan, and names what it named

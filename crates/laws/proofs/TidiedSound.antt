@@ -1,5 +1,6 @@
--- The tidied directory. A step tidies one segment: it is left alone, or rendered again with as many blocks and the same living entries, so the
--- directory stays sound, with the same chain. No segment comes twice in the chain, so in the end each has the tidied entries of its own.
+-- The tidied directory. A step tidies one segment: it is left alone, or rendered again with as many blocks and the same living entries,
+-- so the directory stays sound, with the same chain. No segment comes twice in the chain, so in the end each has the tidied entries of
+-- its own.
 use Prim.Native.Nat.{ℕ, suc, _≤_}
 use mathlib.Core.Path.{_≡_, refl, sym, ap, _∙_, subst}
 use mathlib.Core.Logic.{_≢_}
@@ -9,16 +10,18 @@ use native.Mathlib.Omega.{arith}
 use native.Mathlib.Decide.{ℕ-discrete}
 use lib.ListN.{length}
 use lib.Dec.{eqb}
-use borrow.Author.Tests.{eqb-true, eq-eqb, ne-eqb}
+use borrow.Author.Tests.{eq-eqb, ne-eqb}
 use Rattle.meaning.specs.Words.{firstData, segment, firstOf, extraBytesOf, highest, slotWords, Entry, entries, chain, allEntries}
 use Rattle.meaning.specs.Sound.{fault, times}
 use Rattle.meaning.specs.Requests.{render}
-use Rattle.meaning.specs.Enter.{tidy, withSegment, headerOf, tidiedAt, tidied}
-use Rattle.walks.proofs.Linked.{once}
+use Rattle.meaning.specs.Enter.{tidy, untidy, withSegment, headerOf, tidiedAt, tidied}
+use Rattle.walks.proofs.Linked.{once as at-most-once}
 use Rattle.walks.proofs.Tidied.{Kept, tidy-kept}
-use Rattle.laws.specs.Order.{Key, All}
+use Rattle.walks.proofs.Untidy.{tidy-none}
+use Rattle.meaning.specs.declared.Key.{Key}
+use Rattle.meaning.specs.Keys.{holds, once}
+use Rattle.laws.specs.Order.{All}
 use Rattle.laws.proofs.Alls.{all-map}
-use Rattle.laws.proofs.Keys.{holds}
 use Rattle.laws.proofs.Soundness.{Sound, sound, faultless}
 use Rattle.laws.proofs.Rendered.{Body}
 use Rattle.laws.proofs.Living.{livingOf, counted, count-living}
@@ -27,8 +30,8 @@ use Rattle.laws.proofs.Anew.{visited, visited-times}
 use Rattle.laws.proofs.Rewritten.{used-body, Rewritten, rewritten}
 use Rattle.laws.proofs.Tidying.{Tidier, wide-long, tidy-tidier}
 
-pub few-living : (v : ℕ) (d : List ℕ) → Sound v d → (k : Key) → counted (holds k) (livingOf d) ≤ 1
-few-living v d sd k = rw (count-living k (allEntries d) (firstData d)) (sd .keys k)
+pub few-living : (v : ℕ) (d : List ℕ) → Sound v d → (k : Key) → once k ≡ true → counted (holds k) (livingOf d) ≤ 1
+few-living v d sd k o = rw (count-living k (allEntries d) (firstData d)) (sd .keys k o)
 
 -- a directory of the same shape with the same living entries
 pub record Alike (v : ℕ) (d t : List ℕ) : Type 0 where
@@ -73,17 +76,15 @@ module _ (v : ℕ) (d : List ℕ) (sd : Sound v d) where
 
     step : Step v d s (tidiedAt d s)
     unfolding tidiedAt
-    step = go (eqb (length (tidy es)) (length es)) refl
+    step = go (untidy es) refl
       where
-        go : (x : Bool) → eqb (length (tidy es)) (length es) ≡ x
-            → Step v d s (cond x d (withSegment d s (render (headerOf d s) (tidy es))))
+        go : (x : Bool) → untidy es ≡ x → Step v d s (cond x (withSegment d s (render (headerOf d s) (tidy es))) d)
+        go false x = record { alike = unchanged; own = sym (tidy-none es x); others = λ z l ne. refl }
         go true x =
-            record { alike = unchanged; own = sym (ke .same (eqb-true (length (tidy es)) (length es) x)); others = λ z l ne. refl }
-        go false x =
             record {
               alike =
                   record {
-                    sound = re .sound (λ k. rw living-same (few-living v d sd k));
+                    sound = re .sound (λ k o. rw living-same (few-living v d sd k o));
                     size = re .size;
                     extra = re .extra;
                     highest = re .highest;
@@ -150,7 +151,7 @@ pub record Tidied (v : ℕ) (d t : List ℕ) : Type 0 where
 pub tidied-is : (v : ℕ) (d : List ℕ) → Sound v d → Tidied v d (tidied d (chain d))
 unfolding chain
 tidied-is v d sd =
-    let x = steps v (chain d) d sd (chain-used v d sd) (λ k. once d k (highest d) 1 (sd .links)) in
+    let x = steps v (chain d) d sd (chain-used v d sd) (λ k. at-most-once d k (highest d) 1 (sd .links)) in
     record {
       alike = x .alike;
       entries = λ s u. x .done s (u .0) (visited-times d s (visited v d sd s (u .0) (u .1)));

@@ -1,5 +1,6 @@
--- Tidying the entries of a segment, step by step as it is defined: an empty entry joined to the one after it, and an empty entry of length 0
--- dropped. Each step leaves fine entries fine, keeps the living entries and their first blocks, and leaves the last entry tentative if it was.
+-- Tidying the entries of a segment, step by step as it is defined: an empty entry joined to the one after it, and an empty entry of
+-- length 0 dropped. Each step leaves fine entries fine, keeps the living entries and their first blocks, and leaves the last entry
+-- tentative if it was.
 use Prim.Native.Nat.{ℕ, _+_, _≤_}
 use mathlib.Core.Path.{_≡_, refl, sym, ap, _∙_, subst}
 use mathlib.Core.Bool.{Bool, true, false, cond, _&&_, not}
@@ -16,7 +17,8 @@ use Rattle.meaning.specs.Words.{Entry, lengthWord, kind, blocks}
 use Rattle.meaning.specs.Enter.{isArea, joinTo, joined, dropZero, tidy}
 use Rattle.walks.specs.Runs.{Long}
 use Rattle.laws.proofs.Entries.{view, Grown, grown}
-use Rattle.laws.proofs.Fine.{free, Fine, flag, empty-kind}
+use Rattle.laws.proofs.Fine.{free, Fine, flag}
+use Rattle.walks.proofs.Told.{empty-kind}
 use Rattle.laws.proofs.Rendered.{Wide}
 use Rattle.laws.proofs.Living.{living, living-area}
 
@@ -48,9 +50,9 @@ module _ (w : ℕ) (enough : 7 ≤ w) where
         flag = y .flag ∙ x .flag;
       }
 
-  behind : (p : Bool) (e : Entry) (es ts : List Entry) → length e ≡ w → Tidier w (isTentative (kind e)) es ts → Tidier w p (e ∷ es) (e ∷ ts)
+  past : (p : Bool) (e : Entry) (es ts : List Entry) → length e ≡ w → Tidier w (isTentative (kind e)) es ts → Tidier w p (e ∷ es) (e ∷ ts)
   unfolding living
-  behind p e es ts l x =
+  past p e es ts l x =
       record {
         fine = λ f. (f .0, x .fine (f .1));
         wide = (l, x .wide);
@@ -85,7 +87,12 @@ module _ (w : ℕ) (enough : 7 ≤ w) where
             living =
                 λ b.
                 living-area b (set e lengthWord n) fs (rw k)
-                ∙ (rw (r .blocks, living-area b e (f ∷ fs) (q .0), living-area (b + blocks e) f fs (q .1), add-assoc b (blocks e) (blocks f)));
+                ∙ (rw (
+                  r .blocks,
+                  living-area b e (f ∷ fs) (q .0),
+                  living-area (b + blocks e) f fs (q .1),
+                  add-assoc b (blocks e) (blocks f),
+                ));
             flag = ap (λ (c : Bool). flag c fs) (later k kf);
           }
 
@@ -94,7 +101,7 @@ module _ (w : ℕ) (enough : 7 ≤ w) where
   joined-tidier p [] a = same p [] tt
   joined-tidier p (e ∷ es) a =
       let i = joined-tidier (isTentative (kind e)) es (a .1) in
-      then (behind p e es (joined es) (a .0) i) (join p e (joined es) (a .0) (i .wide))
+      then (past p e es (joined es) (a .0) i) (join p e (joined es) (a .0) (i .wide))
 
   -- entries of length 0 dropped
   pub drop-tidier : (p : Bool) (es : List Entry) → Wide w es → Tidier w p es (dropZero p es)
@@ -107,7 +114,7 @@ module _ (w : ℕ) (enough : 7 ≤ w) where
 
       go : (x : Bool) → isArea e && eqb (blocks e) 0 && not p ≡ x → Tidier w (isTentative (kind e)) es r
           → Tidier w p (e ∷ es) (cond x r (e ∷ r))
-      go false x i = behind p e es r (a .0) i
+      go false x i = past p e es r (a .0) i
       go true x i =
           let q = both (isArea e && eqb (blocks e) 0) (not p) x in
           let q′ = both (isArea e) (eqb (blocks e) 0) (q .0) in

@@ -14,8 +14,10 @@ use Rattle.meaning.specs.declared.Kind.the-variants.{Tentative, Empty, Permanen
 use Rattle.meaning.specs.Kinds.{isTentative, isEnd}
 use Rattle.meaning.specs.Words.{Entry, kind, blocks, upto, total, Row, rowsIn}
 use Rattle.walks.specs.Scan.{badBy, longNamed, scanBad}
-use Rattle.laws.specs.Order.{Key, All}
-use Rattle.laws.proofs.Keys.{holds, holds-kind, empty-holds}
+use Rattle.meaning.specs.declared.Key.{Key}
+use Rattle.meaning.specs.Keys.{holds}
+use Rattle.laws.specs.Order.{All}
+use Rattle.laws.proofs.Keys.{holds-kind, empty-holds}
 use Rattle.laws.proofs.Grid.{grid}
 
 -- C: the keys that are named; x: by how much the slot's first block falls. Only an empty entry's may
@@ -71,14 +73,14 @@ or3 : (p p′ b b′ r r′ : Bool) → (p′ ≡ true → p ≡ true) → (r �
     → p′ || b′ || r′ ≡ false
 or3 p p′ b b′ r r′ f g i h = let n = neither (p || b) r h in rw (less p p′ f (neither p b (n .0) .0), i, g (n .1))
 
-short : (p b r : Bool) → p || b || r ≡ false → b ≡ false
-short p b r h = neither p b (neither (p || b) r h .0) .1
+short-name : (p b r : Bool) → p || b || r ≡ false → b ≡ false
+short-name p b r h = neither p b (neither (p || b) r h .0) .1
 
 by-kept : (k : Kind) (p p′ b r r′ : Bool) → (p′ ≡ true → p ≡ true) → (r ≡ false → r′ ≡ false) → badBy k p b r ≡ false
     → badBy k p′ b r′ ≡ false
-by-kept Tentative p p′ b r r′ f g h = or3 p p′ b b r r′ f g (short p b r h) h
+by-kept Tentative p p′ b r r′ f g h = or3 p p′ b b r r′ f g (short-name p b r h) h
 by-kept Empty p p′ b r r′ f g h = g h
-by-kept Permanent p p′ b r r′ f g h = or3 p p′ b b r r′ f g (short p b r h) h
+by-kept Permanent p p′ b r r′ f g h = or3 p p′ b b r r′ f g (short-name p b r h) h
 by-kept End p p′ b r r′ f g h = less p p′ f h
 by-kept Unknown p p′ b r r′ f g h = h
 

@@ -1,6 +1,6 @@
--- The way along the chain, segment by segment, with what rules 3, 4 and 5 ask of each. The way from segment 1 and block 6 + 2N to segment 0
--- and block V is a directory's soundness but for rules 1, 2 and 6. A way can be cut in two and joined; and it is the way of another directory
--- too, where the two differ in one segment at most that is not on it.
+-- The way along the chain, segment by segment, with what rules 3, 4 and 5 ask of each. The way from segment 1 and block 6 + 2N to
+-- segment 0 and block V is a directory's soundness but for rules 1, 2 and 6. A way can be cut in two and joined; and it is the way of
+-- another directory too, where the two differ in one segment at most that is not on it.
 use Prim.Native.Nat.{ℕ, zero, suc, _+_, _≤_}
 use mathlib.Core.Path.{_≡_, refl, ap, _∙_}
 use mathlib.Core.Logic.{_≢_}
@@ -18,8 +18,10 @@ use Rattle.meaning.specs.Words.{entries, total, chainFrom, chain, entriesOf, al
 use Rattle.meaning.specs.Sound.{bad1, bad2, filled, times}
 use Rattle.walks.specs.Links.{linked}
 use Rattle.walks.specs.Scan.{scanBad}
-use Rattle.laws.specs.Order.{Key, All}
-use Rattle.laws.proofs.Keys.{holds, count}
+use Rattle.meaning.specs.declared.Key.{Key}
+use Rattle.meaning.specs.Keys.{holds, once}
+use Rattle.laws.specs.Order.{All}
+use Rattle.laws.proofs.Keys.{count}
 use Rattle.laws.proofs.Soundness.{Readable, Sound, total-append}
 
 -- what each segment is held to: words of a slot, total, extra bytes, H
@@ -210,7 +212,7 @@ module _ (v : ℕ) (d ss : List ℕ) (many : length ss ≡ highest d) (way : Way
   unfolding chain
   way-chain = rw (← many) (ruled .chain)
 
-  pub way-sound : bad1 v d ≡ false → bad2 d ≡ false → ((k : Key) → count (holds k) (allEntries d) ≤ 1) → Sound v d
+  pub way-sound : bad1 v d ≡ false → bad2 d ≡ false → ((k : Key) → once k ≡ true → count (holds k) (allEntries d) ≤ 1) → Sound v d
   way-sound a b f =
       record {
         size = a;

@@ -13,14 +13,14 @@ use borrow.Author.Tests.{eq-eqb, ne-eqb}
 use Rattle.meaning.specs.Words.{Entry}
 use Rattle.meaning.specs.Answers.{Write, write}
 use Rattle.laws.specs.Order.{All}
-use Rattle.laws.proofs.Grid.{entryAt, OnGrid, tri, Apart, far}
+use Rattle.laws.proofs.Grid.{entryAt, OnGrid, tri, SlotsApart, far}
 
 -- one word set: of the slot that it stands in, and of any other
 at-same : (d : List ℕ) (w p k x : ℕ) → k < w → entryAt (set d (p + k) x) w p ≡ set (entryAt d w p) k x
 unfolding entryAt
 at-same d w p k x h = rw drop-set-add (take-set-lt w (drop p d) k x h)
 
-at-other : (d : List ℕ) (w p q k x : ℕ) → k < w → Apart w q p → entryAt (set d (q + k) x) w p ≡ entryAt d w p
+at-other : (d : List ℕ) (w p q k x : ℕ) → k < w → SlotsApart w q p → entryAt (set d (q + k) x) w p ≡ entryAt d w p
 unfolding entryAt
 at-other d w p q k x l (inl h) = rw (drop-set-lt p d (q + k) x (omega arith))
 at-other d w p q k x l (inr h) =
@@ -73,11 +73,11 @@ at-one : (d : List ℕ) (w p : ℕ) (x : Write) → Fit w x → OnGrid w p
     ≡ cond (eqb (x .place) p) (set (entryAt d w p) (x .word) (x .value)) (entryAt d w p)
 at-one d w p x f o = go (far w (x .place) p (f .on) o)
   where
-    differ : Apart w (x .place) p → x .place ≡ p → ⊥
+    differ : SlotsApart w (x .place) p → x .place ≡ p → ⊥
     differ (inl h) e = let l = f .within in omega arith
     differ (inr h) e = let l = f .within in omega arith
 
-    go : (x .place ≡ p) ⊎ Apart w (x .place) p
+    go : (x .place ≡ p) ⊎ SlotsApart w (x .place) p
         → entryAt (set d (x .place + x .word) (x .value)) w p
         ≡ cond (eqb (x .place) p) (set (entryAt d w p) (x .word) (x .value)) (entryAt d w p)
     go (inl e) = rw (e, eq-eqb p p refl) (at-same d w p (x .word) (x .value) (f .within))

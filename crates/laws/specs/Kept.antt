@@ -1,70 +1,62 @@
--- Demand 2, *Kept*: each request leaves a sound directory sound for the same V, and so does a fresh start; what lookup answers afterwards for
--- the name concerned, and that for every other name it answers as before (proofs/Kept.antt).
+-- Demand 2, *Kept*: each request leaves a sound directory sound for the same V, and so does a fresh start; what lookup answers
+-- afterwards for the name concerned, and that for every other name it answers as before (proofs/Kept.antt).
 use Prim.Native.Nat.{ℕ}
 use mathlib.Core.Path.{_≡_}
-use mathlib.Core.Logic.{_⊎_}
-use mathlib.Core.Bool.{true}
-use mathlib.Core.Option.{Option, none, some}
+use mathlib.Core.Bool.{true, false}
+use mathlib.Core.Option.{some}
 use mathlib.Core.List.{List}
-use lib.IntN.{ℤ, pos}
-use lib.ListN.{getD}
-use Rattle.names.specs.Radix.{legalName}
-use Rattle.meaning.specs.declared.Answer.{Answer}
-use Rattle.meaning.specs.Words.{nameWord, name2Word, extensionWord, dateOf, Row}
+use lib.IntN.{ℤ}
+use Rattle.meaning.specs.declared.Name.{Name}
+use Rattle.meaning.specs.declared.Request.{Request}
+use Rattle.meaning.specs.Words.{nameOf, Row}
 use Rattle.meaning.specs.Sound.{fault}
-use Rattle.meaning.specs.Answers.{Outcome, refuse, fileOf, openOn}
-use Rattle.meaning.specs.Requests.{lookup, delete, abandon, rename, close, fresh, wordOf}
-
-abbrev pub answer : Outcome → Answer
-answer o = o .answer
-
--- names are the same
-pub record Same (a b c a′ b′ c′ : ℕ) : Type 0 where
-  pub first : a ≡ a′
-  pub second : b ≡ b′
-  pub extension : c ≡ c′
+use Rattle.meaning.specs.Answers.{refusal, openOn}
+use Rattle.meaning.specs.Requests.{legal, lookup, delete, abandon, rename, close, fresh, wordOf}
+use Rattle.meaning.specs.Batch.{serve}
 
 -- for every other name lookup answers as before
-abbrev pub OthersAsBefore : ℕ → List ℕ → List ℕ → ℕ → ℕ → ℕ → Type 0
-OthersAsBefore v d after a b c =
-    (x y z : ℕ) → (Same x y z a b c → ⊥) → answer (lookup v after x y z) ≡ answer (lookup v d x y z)
+abbrev pub OthersAsBefore : ℕ → List ℕ → List ℕ → Name → Type 0
+OthersAsBefore v d after name = (n : Name) → (n ≡ name → ⊥) → lookup v after n .answer ≡ lookup v d n .answer
 
 -- a delete that succeeds: the file is not found any more
-pub record KeptByDelete (v : ℕ) (d : List ℕ) (a b c : ℕ) : Type 0 where
-  pub sound : fault v (delete v d a b c .words) ≡ 0
-  pub gone : delete v d a b c .answer .number ≡ 0 → lookup v (delete v d a b c .words) a b c .answer .number ≡ 13
-  pub others : OthersAsBefore v d (delete v d a b c .words) a b c
+pub record KeptByDelete (v : ℕ) (d : List ℕ) (name : Name) : Type 0 where
+  pub sound : fault v (delete v d name .words) ≡ 0
+  pub gone : delete v d name .answer .number ≡ 0 → lookup v (delete v d name .words) name .answer ≡ refusal 13
+  pub others : OthersAsBefore v d (delete v d name .words) name
 
 -- an abandon: every name as before
 pub record KeptByAbandon (v : ℕ) (d : List ℕ) (job channel : ℕ) : Type 0 where
   pub sound : fault v (abandon v d job channel .words) ≡ 0
-  pub all : (x y z : ℕ) → answer (lookup v (abandon v d job channel .words) x y z) ≡ answer (lookup v d x y z)
+  pub all : (n : Name) → lookup v (abandon v d job channel .words) n .answer ≡ lookup v d n .answer
 
 -- a rename that succeeds: the new name answers what the old one did, and the old one is not found
-pub record KeptByRename (v : ℕ) (d : List ℕ) (a b c a′ b′ c′ : ℕ) : Type 0 where
-  pub sound : fault v (rename v d a b c a′ b′ c′ .words) ≡ 0
-  pub new : rename v d a b c a′ b′ c′ .answer .number ≡ 0
-      → answer (lookup v (rename v d a b c a′ b′ c′ .words) a′ b′ c′) ≡ answer (lookup v d a b c)
-  pub old : rename v d a b c a′ b′ c′ .answer .number ≡ 0
-      → lookup v (rename v d a b c a′ b′ c′ .words) a b c .answer .number ≡ 13
-  pub others : (x y z : ℕ) → (Same x y z a b c → ⊥) → (Same x y z a′ b′ c′ → ⊥)
-      → answer (lookup v (rename v d a b c a′ b′ c′ .words) x y z) ≡ answer (lookup v d x y z)
+pub record KeptByRename (v : ℕ) (d : List ℕ) (old new : Name) : Type 0 where
+  pub sound : fault v (rename v d old new .words) ≡ 0
+  pub given : rename v d old new .answer .number ≡ 0 → lookup v (rename v d old new .words) new .answer ≡ lookup v d old .answer
+  pub gone : rename v d old new .answer .number ≡ 0 → lookup v (rename v d old new .words) old .answer ≡ refusal 13
+  pub others : (n : Name) → (n ≡ old → ⊥) → (n ≡ new → ⊥) → lookup v (rename v d old new .words) n .answer ≡ lookup v d n .answer
 
 -- a close that succeeds makes the file of its tentative entry's name: where that is a legal name, lookup answers just what the close did;
 -- every other name is as before
 pub record KeptByClose (v : ℕ) (d : List ℕ) (job channel : ℕ) (final : ℤ) : Type 0 where
   pub sound : fault v (close v d job channel final .words) ≡ 0
   pub made : (r : Row) → openOn d (wordOf job channel) ≡ some r → close v d job channel final .answer .number ≡ 0
-      → (a b c : ℕ) → Same a b c (getD (r .entry) nameWord 0) (getD (r .entry) name2Word 0) (getD (r .entry) extensionWord 0)
-      → legalName a b c ≡ true → answer (lookup v (close v d job channel final .words) a b c) ≡ answer (close v d job channel final)
+      → legal (nameOf (r .entry)) ≡ true
+      → lookup v (close v d job channel final .words) (nameOf (r .entry)) .answer ≡ close v d job channel final .answer
   pub others : (r : Row) → openOn d (wordOf job channel) ≡ some r
-      → OthersAsBefore v d (close v d job channel final .words) (getD (r .entry) nameWord 0) (getD (r .entry) name2Word 0)
-      (getD (r .entry) extensionWord 0)
+      → OthersAsBefore v d (close v d job channel final .words) (nameOf (r .entry))
 
--- each on a sound directory; and a fresh start that succeeds, on any words
+-- a fresh start that succeeds: no name is found
+pub record KeptByFresh (v : ℕ) (after : List ℕ) : Type 0 where
+  pub sound : fault v after ≡ 0
+  pub none : (n : Name) → legal n ≡ true → lookup v after n .answer ≡ refusal 13
+  pub illegal : (n : Name) → legal n ≡ false → lookup v after n .answer ≡ refusal 7
+
+-- each on a sound directory; every request of a batch, enter too; and a fresh start that succeeds, on any words
 pub record Kept (v : ℕ) : Type 0 where
-  pub deletes : (d : List ℕ) → fault v d ≡ 0 → (a b c : ℕ) → KeptByDelete v d a b c
+  pub deletes : (d : List ℕ) → fault v d ≡ 0 → (name : Name) → KeptByDelete v d name
   pub abandons : (d : List ℕ) → fault v d ≡ 0 → (job channel : ℕ) → KeptByAbandon v d job channel
-  pub renames : (d : List ℕ) → fault v d ≡ 0 → (a b c a′ b′ c′ : ℕ) → KeptByRename v d a b c a′ b′ c′
+  pub renames : (d : List ℕ) → fault v d ≡ 0 → (old new : Name) → KeptByRename v d old new
   pub closes : (d : List ℕ) → fault v d ≡ 0 → (job channel : ℕ) (final : ℤ) → KeptByClose v d job channel final
-  pub starts : (d : List ℕ) (extra : ℕ) → fresh v d extra .answer .number ≡ 0 → fault v (fresh v d extra .words) ≡ 0
+  pub requests : (d : List ℕ) → fault v d ≡ 0 → (q : Request) → fault v (serve v d q .words) ≡ 0
+  pub starts : (d : List ℕ) (extra : ℕ) → fresh v d extra .answer .number ≡ 0 → KeptByFresh v (fresh v d extra .words)

@@ -3,3 +3,4 @@ pub mod Refusals
 pub mod Order
 pub mod Kept
 pub mod Room
+pub mod Blocks

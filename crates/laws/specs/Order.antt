@@ -1,18 +1,20 @@
--- Demand 3: a batch of deletes, renames, closes and abandons, no two naming the same file or the same open channel, gives each request the
--- same answer and ends in the same words in every order; files that none names are kept, and the lengths still add up (proofs/Demand3.antt).
+-- Demand 3: a batch of deletes, renames, closes and abandons, no two naming the same file or the same open channel, gives each request
+-- the same answer and ends in the same words in every order; files that none names are kept, and the lengths still add up
+-- (proofs/Demand3.antt).
 use Prim.Native.Nat.{ℕ, _-_}
 use mathlib.Core.Path.{_≡_}
 use mathlib.Core.Logic.{_⊎_}
-use mathlib.Core.Bool.{Bool, cond}
+use mathlib.Core.Bool.{cond}
 use mathlib.Core.List.{List, [], _∷_, List·Permᴰ}
 use mathlib.Core.Option.{Option, none, some}
-use lib.ListN.{getD}
 use Rattle.meaning.specs.declared.Op.{Op}
 use Rattle.meaning.specs.declared.Op.the-variants.{Lookup, Enter, Close, Abandon, Delete, Rename}
 use Rattle.meaning.specs.declared.Name.{Name}
+use Rattle.meaning.specs.declared.Key.{Key}
+use Rattle.meaning.specs.declared.Key.the-variants.{File, Open}
 use Rattle.meaning.specs.declared.Request.{Request}
 use Rattle.meaning.specs.declared.Answer.{Answer}
-use Rattle.meaning.specs.Words.{firstData, nameWord, name2Word, extensionWord, Row, total, allEntries}
+use Rattle.meaning.specs.Words.{firstData, nameOf, Row, total, allEntries}
 use Rattle.meaning.specs.Sound.{fault}
 use Rattle.meaning.specs.Answers.{fileOf, openOn}
 use Rattle.meaning.specs.Requests.{goodChannel, wordOf}
@@ -27,18 +29,6 @@ InBatch Abandon = Unit {0}
 InBatch Delete = Unit {0}
 InBatch Rename = Unit {0}
 
--- what a request can name: a file, by its three words, or an open channel, by its channel word
-pub data Key : Type 0 where
-  file : ℕ → ℕ → ℕ → Key
-  channel : ℕ → Key
-
-abbrev pub fileNamed : Name → Key
-fileNamed n = file (n .first) (n .second) (n .extension)
-
--- the file that a tentative entry is to make
-abbrev pub fileOfRow : Row → Key
-fileOfRow r = file (getD (r .entry) nameWord 0) (getD (r .entry) name2Word 0) (getD (r .entry) extensionWord 0)
-
 -- the tentative entry on a request's channel, where it is a channel and is open
 unfoldable pub openFor : List ℕ → Request → Option Row
 openFor d q = cond (goodChannel (q .job) (q .channel)) (openOn d (wordOf (q .job) (q .channel))) none
@@ -47,15 +37,15 @@ abbrev pub OnOpen : Option Row → (Row → Type 0) → Type 0
 OnOpen none P = ⊥
 OnOpen (some r) P = P r
 
--- A delete names its file; a rename both its names; a close and an abandon their channel, if it is open; a close also the file that its
--- open channel is to make, even where the close is refused, and no file where nothing is open on it
+-- What a request names, by its key. A delete names its file; a rename both its names; a close and an abandon their channel, if it is open;
+-- a close also the file that its open channel is to make, even where the close is refused, and no file where nothing is open on it
 abbrev pub NamesBy : Op → List ℕ → Request → Key → Type 0
 NamesBy Lookup d q k = ⊥
 NamesBy Enter d q k = ⊥
-NamesBy Close d q k = OnOpen (openFor d q) λ r. (k ≡ channel (wordOf (q .job) (q .channel))) ⊎ (k ≡ fileOfRow r)
-NamesBy Abandon d q k = OnOpen (openFor d q) λ r. k ≡ channel (wordOf (q .job) (q .channel))
-NamesBy Delete d q k = k ≡ fileNamed (q .name)
-NamesBy Rename d q k = (k ≡ fileNamed (q .name)) ⊎ (k ≡ fileNamed (q .«new_name»))
+NamesBy Close d q k = OnOpen (openFor d q) λ r. (k ≡ Open (wordOf (q .job) (q .channel))) ⊎ (k ≡ File (nameOf (r .entry)))
+NamesBy Abandon d q k = OnOpen (openFor d q) λ r. k ≡ Open (wordOf (q .job) (q .channel))
+NamesBy Delete d q k = k ≡ File (q .name)
+NamesBy Rename d q k = (k ≡ File (q .name)) ⊎ (k ≡ File (q .«new_name»))
 
 unfoldable pub Names : List ℕ → Request → Key → Type 0
 Names d q k = NamesBy (q .op) d q k
@@ -92,11 +82,12 @@ pub record Ordered (v : ℕ) (d : List ℕ) (qs rs : List Request) : Type 0 wher
   pub answers : List·Permᴰ (paired qs (answersTo v d qs)) (paired rs (answersTo v d rs))
   pub words : wordsAfter v d qs ≡ wordsAfter v d rs
 
--- and of the batch alone: the directory is sound; a file that none names keeps its row: first block, length and date; the lengths of all
--- entries add up to the volume's data blocks, V − 6 − 2N
+-- and of the batch alone: the directory is sound; a file that none names keeps its row: first block, length and date; so does an open
+-- channel, all words of its entry; the lengths of all entries add up to the volume's data blocks, V − 6 − 2N
 pub record KeptByBatch (v : ℕ) (d : List ℕ) (qs : List Request) : Type 0 where
   pub sound : fault v (wordsAfter v d qs) ≡ 0
-  pub files : (a b c : ℕ) → All (λ (q : Request). Names d q (file a b c) → ⊥) qs → fileOf (wordsAfter v d qs) a b c ≡ fileOf d a b c
+  pub files : (n : Name) → All (λ (q : Request). Names d q (File n) → ⊥) qs → fileOf (wordsAfter v d qs) n ≡ fileOf d n
+  pub channels : (x : ℕ) → All (λ (q : Request). Names d q (Open x) → ⊥) qs → openOn (wordsAfter v d qs) x ≡ openOn d x
   pub lengths : total (allEntries (wordsAfter v d qs)) ≡ v - firstData d
 
 -- for every sound directory, every such batch and every permutation of it

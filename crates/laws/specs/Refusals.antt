@@ -7,7 +7,7 @@ use mathlib.Core.List.{List, [], _∷_, _++_}
 use Rattle.meaning.specs.declared.Op.{Op}
 use Rattle.meaning.specs.declared.Op.the-variants.{Lookup, Enter, Close, Abandon, Delete, Rename}
 use Rattle.meaning.specs.declared.Request.{Request}
-use Rattle.meaning.specs.Answers.{Outcome}
+use Rattle.meaning.specs.Answers.{Outcome, refusal}
 use Rattle.meaning.specs.Requests.{fresh}
 use Rattle.meaning.specs.Batch.{serve}
 
@@ -15,10 +15,14 @@ use Rattle.meaning.specs.Batch.{serve}
 abbrev pub faults : List ℕ
 faults = 1 ∷ 2 ∷ 3 ∷ 4 ∷ 5 ∷ 6 ∷ []
 
+-- the refusals of enter that are tested before those for room
+abbrev pub beforeRoom : List ℕ
+beforeRoom = 7 ∷ 8 ∷ 9 ∷ 10 ∷ []
+
 -- the refusals that document 01's table lists for a request
 abbrev pub asked : Op → List ℕ
 asked Lookup = 7 ∷ 13 ∷ []
-asked Enter = 7 ∷ 8 ∷ 9 ∷ 10 ∷ 11 ∷ 12 ∷ []
+asked Enter = beforeRoom ++ 11 ∷ 12 ∷ []
 asked Close = 8 ∷ 15 ∷ 16 ∷ []
 asked Abandon = 8 ∷ 15 ∷ []
 asked Delete = 7 ∷ 13 ∷ []
@@ -31,9 +35,7 @@ Among n (m ∷ ms) = (n ≡ m) ⊎ Among n ms
 
 -- a refusal: first block, length and date all 0, and the directory word for word
 pub record Untouched (d : List ℕ) (o : Outcome) : Type 0 where
-  pub first : o .answer .first ≡ 0
-  pub length : o .answer .length ≡ 0
-  pub date : o .answer .date ≡ 0
+  pub answer : o .answer ≡ refusal (o .answer .number)
   pub words : o .words ≡ d
 
 -- the number is 0 or listed, and where it is not 0 nothing is changed

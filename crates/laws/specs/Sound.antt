@@ -8,8 +8,9 @@ use lib.ListN.{length, getD}
 use Rattle.meaning.specs.Sound.{fault}
 use Rattle.meaning.specs.declared.Kind.{Kind}
 use Rattle.meaning.specs.declared.Kind.the-variants.{Tentative, Empty, Permanent, End}
+use Rattle.meaning.specs.declared.Name.{Name}
 use Rattle.meaning.specs.Words.{segments, firstData, segment, totalOf, extraBytesOf, firstOf, highest, slotWords, Entry}
-use Rattle.meaning.specs.Words.{nameWord, name2Word, extensionWord, kind, channelOf, slots, entries, total, reached, allEntries}
+use Rattle.meaning.specs.Words.{nameOf, kind, channelOf, slots, entries, total, reached, allEntries}
 
 -- 1: N is 1 to 31, the slice has exactly 512·N words, and V is 6+2N to 65,535
 pub record Rule1 (v : ℕ) (d : List ℕ) : Type 0 where
@@ -51,10 +52,10 @@ abbrev pub IsEntry : Kind → Type 0
 IsEntry k = (k ≡ Tentative) ⊎ ((k ≡ Empty) ⊎ (k ≡ Permanent))
 
 -- no name word above 63,999
-pub record ShortName (e : Entry) : Type 0 where
-  pub name : getD e nameWord 0 ≤ 63999
-  pub name2 : getD e name2Word 0 ≤ 63999
-  pub extension : getD e extensionWord 0 ≤ 63999
+pub record ShortName (n : Name) : Type 0 where
+  pub first : n .first ≤ 63999
+  pub second : n .second ≤ 63999
+  pub extension : n .extension ≤ 63999
 
 -- 4, of one segment's S slots: a marker stands among them; before it are entries alone; no name word of a permanent or tentative one is
 -- above 63,999; the slot after a tentative entry is an empty entry
@@ -63,7 +64,7 @@ pub record Readable (es : List Entry) : Type 0 where
   pub within : mark < length es
   pub marker : kind (getD es mark []) ≡ End
   pub before : (j : ℕ) → j < mark → IsEntry (kind (getD es j []))
-  pub named : (j : ℕ) → j < mark → (kind (getD es j []) ≡ Permanent) ⊎ (kind (getD es j []) ≡ Tentative) → ShortName (getD es j [])
+  pub named : (j : ℕ) → j < mark → (kind (getD es j []) ≡ Permanent) ⊎ (kind (getD es j []) ≡ Tentative) → ShortName (nameOf (getD es j []))
   pub followed : (j : ℕ) → j < mark → kind (getD es j []) ≡ Tentative → (j + 1 < mark) × (kind (getD es (j + 1) []) ≡ Empty)
 
 -- 4: every visited segment is readable
@@ -80,17 +81,11 @@ pub record Rule5 (v : ℕ) (d : List ℕ) : Type 0 where
   pub meets : (i : ℕ) → i + 1 < highest d → firstOf (segment d (visit d (i + 1))) ≡ endOf d (visit d i)
   pub ends : endOf d (visit d (highest d - 1)) ≡ v
 
--- two entries have the same name
-pub record SameName (e f : Entry) : Type 0 where
-  pub name : getD e nameWord 0 ≡ getD f nameWord 0
-  pub name2 : getD e name2Word 0 ≡ getD f name2Word 0
-  pub extension : getD e extensionWord 0 ≡ getD f extensionWord 0
-
 -- 6: permanent entries at two different places have different names, tentative ones different channel words
 pub record Rule6 (d : List ℕ) : Type 0 where
   pub files : (i j : ℕ) → i < length (allEntries d) → j < length (allEntries d) → (i ≡ j → ⊥)
       → kind (getD (allEntries d) i []) ≡ Permanent → kind (getD (allEntries d) j []) ≡ Permanent
-      → SameName (getD (allEntries d) i []) (getD (allEntries d) j []) → ⊥
+      → nameOf (getD (allEntries d) i []) ≡ nameOf (getD (allEntries d) j []) → ⊥
   pub channels : (i j : ℕ) → i < length (allEntries d) → j < length (allEntries d) → (i ≡ j → ⊥)
       → kind (getD (allEntries d) i []) ≡ Tentative → kind (getD (allEntries d) j []) ≡ Tentative
       → channelOf (getD (allEntries d) i []) ≡ channelOf (getD (allEntries d) j []) → ⊥

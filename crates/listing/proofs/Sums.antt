@@ -21,7 +21,7 @@ use Rattle.cursor.specs.declared.Cursor.{Cursor}
 use Rattle.cursor.specs.declared.Seen.{Seen}
 use Rattle.cursor.specs.declared.Step.the-variants.{Entry as Given, End as Done}
 use Rattle.cursor.proofs.Walking.{On, begins, from-start, Went, went, ended}
-use Rattle.listing.specs.Rows.{IsSound, Counted, TotalsOf}
+use Rattle.listing.specs.Rows.{IsSound, TotalsAfter, TotalsOf}
 use Rattle.listing.specs.declared.rows.Totals.{Totals}
 
 cond-most : (t : Bool) (n : ℕ) → cond t n 0 ≤ n
@@ -43,19 +43,19 @@ kind-fits v d h is =
 
 -- the totals with one entry more, by its kind
 module _ (t : Totals) {k : Kind} (n : ℕ) where
-  pub count-open : k ≡ Tentative → Counted t k n (record { files = t .files; opened = t .opened + n; free = t .free })
+  pub count-open : k ≡ Tentative → TotalsAfter t k n (record { files = t .files; opened = t .opened + n; free = t .free })
   count-open e = rw e (record { files = omega arith; opened = refl; free = omega arith })
 
-  pub count-free : k ≡ Empty → Counted t k n (record { files = t .files; opened = t .opened; free = t .free + n })
+  pub count-free : k ≡ Empty → TotalsAfter t k n (record { files = t .files; opened = t .opened; free = t .free + n })
   count-free e = rw e (record { files = omega arith; opened = omega arith; free = refl })
 
-  pub count-file : k ≡ Permanent → Counted t k n (record { files = t .files + n; opened = t .opened; free = t .free })
+  pub count-file : k ≡ Permanent → TotalsAfter t k n (record { files = t .files + n; opened = t .opened; free = t .free })
   count-file e = rw e (record { files = refl; opened = omega arith; free = omega arith })
 
-  pub count-end : k ≡ End → Counted t k n t
+  pub count-end : k ≡ End → TotalsAfter t k n t
   count-end e = rw e (record { files = omega arith; opened = omega arith; free = omega arith })
 
-  pub count-unknown : k ≡ Unknown → Counted t k n t
+  pub count-unknown : k ≡ Unknown → TotalsAfter t k n t
   count-unknown e = rw e (record { files = omega arith; opened = omega arith; free = omega arith })
 
 -- the blocks of the rows ahead
@@ -111,7 +111,7 @@ module _ {d : List ℕ} {c : Cursor} {t : Totals} (g : Summing d c t) where
   pub sum-less : (seen : Seen) (to : Cursor) → stepAt d c ≡ Given seen to → length (rowsAt d to) < length (rowsAt d c)
   sum-less seen to e = let w = went (g .on) seen to e in rw (w .is, w .ahead) (omega arith)
 
-  pub sum-more : (seen : Seen) (to : Cursor) {u : Totals} → stepAt d c ≡ Given seen to → Counted t (seen .kind) (seen .length) u
+  pub sum-more : (seen : Seen) (to : Cursor) {u : Totals} → stepAt d c ≡ Given seen to → TotalsAfter t (seen .kind) (seen .length) u
       → Summing d to u
   unfolding blocksOf
   sum-more seen to {u} e k =

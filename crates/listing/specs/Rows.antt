@@ -29,7 +29,7 @@ seenText s =
     rowBy (s .kind) (s .name .first) (s .name .second) (s .name .extension) (s .first) (s .length) (s .date)
 
 -- totals with an entry more, of a kind and a length
-pub record Counted (before : Totals) (kind : Kind) (blocks : ℕ) (after : Totals) : Type 0 where
+pub record TotalsAfter (before : Totals) (kind : Kind) (blocks : ℕ) (after : Totals) : Type 0 where
   pub files : after .files ≡ before .files + cond (isPermanent kind) blocks 0
   pub opened : after .opened ≡ before .opened + cond (isTentative kind) blocks 0
   pub free : after .free ≡ before .free + cond (isEmpty kind) blocks 0

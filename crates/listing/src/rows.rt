@@ -8,7 +8,7 @@ ghost use lib.ListN.{length};
 ghost use Rattle.meaning.specs.Words.{rows, allEntries};
 ghost use Rattle.meaning.specs.Listing.{rowsText};
 ghost use Rattle.lines.specs.Wrote.{WroteAtMost};
-ghost use Rattle.listing.specs.Rows.{IsSound, Shown, seenText, Counted, TotalsOf};
+ghost use Rattle.listing.specs.Rows.{IsSound, Shown, seenText, TotalsAfter, TotalsOf};
 
 // The blocks of permanent, of tentative and of empty entries.
 pub struct Totals {
@@ -58,7 +58,7 @@ pub(crate) fn put_rows(out: &mut [u8], at: usize, d: &[u16]) -> usize
 // The totals with one entry more. A marker and an unknown status have no blocks.
 fn count_entry(totals: Totals, seen: Seen) -> Totals
     requires { ⌜ (totals .files ≤ 65535) × (totals .opened ≤ 65535) × (totals .free ≤ 65535) ⌝ }
-    ensures { λ r. ⌜ Counted totals (seen .kind) (seen .length) r ⌝ }
+    ensures { λ r. ⌜ TotalsAfter totals (seen .kind) (seen .length) r ⌝ }
 {
     let kind = seen.kind;
     let blocks = seen.length as usize;

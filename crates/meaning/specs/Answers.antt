@@ -1,27 +1,41 @@
 -- What a request gives (document 01, "Requests"): the answer, and the words after. Refusals and success, once for all requests.
 use Prim.Native.Nat.{ℕ, zero, suc, _+_}
-use mathlib.Core.Bool.{Bool, true, false, cond, _&&_}
+use mathlib.Core.Path.{_≡_}
+use mathlib.Core.Bool.{Bool, true, false, cond}
 use mathlib.Core.List.{List, [], _∷_}
 use mathlib.Core.Option.{Option, none, some}
-use lib.ListN.{getD, set}
-use lib.Dec.{eqb}
+use lib.ListN.{set}
 use Rattle.meaning.specs.declared.Answer.{Answer}
-use Rattle.meaning.specs.Kinds.{isTentative, isPermanent}
-use Rattle.meaning.specs.Words.{Entry, kind, blocks, channelOf, dateOf, named, Row, rows}
+use Rattle.meaning.specs.declared.Name.{Name}
+use Rattle.meaning.specs.declared.Key.the-variants.{File, Open}
+use Rattle.meaning.specs.Words.{Entry, Row, rows}
+use Rattle.meaning.specs.Keys.{holds}
 use Rattle.meaning.specs.Sound.{fault}
 
 pub record Outcome : Type 0 where
   pub answer : Answer
   pub words : List ℕ
 
--- A refusal answers its number with first block, length and date all 0, and the directory stays word for word
-unfoldable pub refuse : ℕ → List ℕ → Outcome
-refuse n d = record { answer = record { number = n; first = 0; length = 0; date = 0 }; words = d }
+-- what a routine promises of a request: its answer and every word after the call are the outcome's
+pub record Meets (r : Answer) (after : List ℕ) (o : Outcome) : Type 0 where
+  pub answer : r ≡ o .answer
+  pub words : after ≡ o .words
 
--- Success is 0: first block, length and date of the entry concerned, as it stands afterwards
+-- A refusal answers its number with first block, length and date all 0
+abbrev pub refusal : ℕ → Answer
+refusal n = record { number = n; first = 0; length = 0; date = 0 }
+
+-- Success is 0: first block, length and date of the entry concerned
+abbrev pub granted : ℕ → ℕ → ℕ → Answer
+granted first length date = record { number = 0; first = first; length = length; date = date }
+
+-- after a refusal the directory stays word for word
+unfoldable pub refuse : ℕ → List ℕ → Outcome
+refuse n d = record { answer = refusal n; words = d }
+
+-- a success answers the entry as it stands afterwards
 unfoldable pub success : ℕ → ℕ → ℕ → List ℕ → Outcome
-success first length date after =
-    record { answer = record { number = 0; first = first; length = length; date = date }; words = after }
+success first length date after = record { answer = granted first length date; words = after }
 
 -- Refusals are tested in number order, after 1 to 6. Each line of a request is one test: the refusal, or what comes next
 abbrev pub passed : ℕ → List ℕ → (Unit {0} → Outcome) → Outcome
@@ -52,18 +66,12 @@ isNone none = true
 isNone (some a) = false
 
 -- the permanent file of a name
-unfoldable pub permanentNamed : ℕ → ℕ → ℕ → Entry → Bool
-permanentNamed a b c e = isPermanent (kind e) && named a b c e
-
-unfoldable pub fileOf : List ℕ → ℕ → ℕ → ℕ → Option Row
-fileOf d a b c = find (permanentNamed a b c) (rows d)
+unfoldable pub fileOf : List ℕ → Name → Option Row
+fileOf d n = find (holds (File n)) (rows d)
 
 -- the tentative entry on a channel word
-unfoldable pub tentativeOn : ℕ → Entry → Bool
-tentativeOn x e = isTentative (kind e) && eqb (channelOf e) x
-
 unfoldable pub openOn : List ℕ → ℕ → Option Row
-openOn d x = find (tentativeOn x) (rows d)
+openOn d x = find (holds (Open x)) (rows d)
 
 -- A change of words: of the entry that begins at a place, one word gets a value. Changes are made in order
 pub record Write : Type 0 where

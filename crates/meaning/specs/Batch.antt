@@ -6,7 +6,6 @@ use lib.ListN.{length}
 use lib.Dec.{eqb}
 use Rattle.meaning.specs.declared.Op.{Op}
 use Rattle.meaning.specs.declared.Op.the-variants.{Lookup, Enter, Close, Abandon, Delete, Rename}
-use Rattle.meaning.specs.declared.Name.{Name}
 use Rattle.meaning.specs.declared.Request.{Request}
 use Rattle.meaning.specs.declared.Answer.{Answer}
 use Rattle.meaning.specs.Answers.{Outcome}
@@ -15,16 +14,12 @@ use Rattle.meaning.specs.Enter.{enter}
 
 -- a request record: every request but a fresh start
 abbrev pub serveBy : Op → ℕ → List ℕ → Request → Outcome
-serveBy Lookup v d q = lookup v d (q .name .first) (q .name .second) (q .name .extension)
-serveBy Enter v d q =
-    enter v d (q .name .first) (q .name .second) (q .name .extension) (q .size) (q .job) (q .channel) (q .date)
+serveBy Lookup v d q = lookup v d (q .name)
+serveBy Enter v d q = enter v d (q .name) (q .size) (q .job) (q .channel) (q .date)
 serveBy Close v d q = close v d (q .job) (q .channel) (q .«final_length»)
 serveBy Abandon v d q = abandon v d (q .job) (q .channel)
-serveBy Delete v d q = delete v d (q .name .first) (q .name .second) (q .name .extension)
-serveBy Rename v d q =
-    rename v d (q .name .first) (q .name .second) (q .name .extension) (q .«new_name» .first)
-    (q .«new_name» .second)
-    (q .«new_name» .extension)
+serveBy Delete v d q = delete v d (q .name)
+serveBy Rename v d q = rename v d (q .name) (q .«new_name»)
 
 unfoldable pub serve : ℕ → List ℕ → Request → Outcome
 serve v d q = serveBy (q .op) v d q

@@ -6,14 +6,14 @@ use mathlib.Core.Option.{Option, none, some}
 use lib.ListN.{length, getD, take, drop, set}
 use lib.IntN.{ℤ, pos, negsuc}
 use lib.Dec.{eqb, leb, ltb}
-use Rattle.names.specs.Radix.{legalName}
 use Rattle.dates.specs.Dates.{goodDate}
-use Rattle.meaning.specs.Kinds.{isTentative, isEmpty}
+use Rattle.meaning.specs.declared.Name.{Name}
+use Rattle.meaning.specs.Kinds.{tentativeStatus, isTentative, isEmpty}
 use Rattle.meaning.specs.Words.{segments, segment, totalOf, linkOf, extraBytesOf, firstOf, highest, slotWords, capacity, Entry}
 use Rattle.meaning.specs.Words.{lengthWord, kind, blocks, entries, total, chain}
-use Rattle.meaning.specs.Sound.{any}
+use Rattle.meaning.specs.Sound.{any, beginsEmpty}
 use Rattle.meaning.specs.Answers.{Outcome, refuse, success, ifSound, unless, isNone, openOn}
-use Rattle.meaning.specs.Requests.{goodChannel, wordOf, entryOf, render}
+use Rattle.meaning.specs.Requests.{legal, goodChannel, wordOf, entryOf, emptyEntry, render}
 
 -- A size is -1 for the longest, 0 for RT-11's default, or 1 to 65,535 blocks; any other is wrong
 pub data Size : Type 0 where
@@ -60,13 +60,25 @@ withSegment d s g = take (512 * (s - 1)) d ++ g ++ drop (512 * s) d
 unfoldable pub headerOf : List ℕ → ℕ → List ℕ
 headerOf d s = take 5 (segment d s)
 
--- In a segment whose entries an enter has changed, all words after the marker's status are 0; other segments stay as they were.
--- A run that is joined or dropped makes the entries fewer, and nothing else is changed by the tidy
+-- a run longer than one: an empty entry directly before another
+unfoldable pub hasRun : List Entry → Bool
+hasRun [] = false
+hasRun (e ∷ es) = let r = hasRun es in (isArea e && beginsEmpty es) || r
+
+-- a sum that is dropped, of a run of one: an empty entry of length 0 with no tentative entry directly before it, of which p tells
+unfoldable pub hasZero : Bool → List Entry → Bool
+hasZero p [] = false
+hasZero p (e ∷ es) = let r = hasZero (isTentative (kind e)) es in (isArea e && eqb (blocks e) 0 && not p) || r
+
+-- the tidy changes entries that have a run longer than one, or a sum dropped
+unfoldable pub untidy : List Entry → Bool
+untidy es = hasRun es || hasZero false es
+
+-- In a segment whose entries an enter has changed, all words after the marker's status are 0; other segments stay as they were
 unfoldable pub tidiedAt : List ℕ → ℕ → List ℕ
 tidiedAt d s =
     let es = entries d s in
-    let ts = tidy es in
-    cond (eqb (length ts) (length es)) d (withSegment d s (render (headerOf d s) ts))
+    cond (untidy es) (withSegment d s (render (headerOf d s) (tidy es))) d
 
 -- in each open segment
 unfoldable pub tidied : List ℕ → List ℕ → List ℕ
@@ -172,7 +184,7 @@ kept es = let h = length es / 2 in cond (endsTentative (take h es)) (h + 1) h
 unfoldable pub inserted : ℕ → Entry → ℕ → ℕ → ℕ → List Entry → List Entry
 inserted w new n cost k es =
     take k es
-    ++ cond (eqb cost 2) (entryOf w 512 0 0 0 0 0 0 ∷ []) []
+    ++ cond (eqb cost 2) (emptyEntry w 0 ∷ []) []
     ++ new ∷ set (getD es k []) lengthWord (blocks (getD es k []) - n) ∷ drop (suc k) es
 
 -- the new entry inserted, in the chosen segment
@@ -196,8 +208,8 @@ split t new n a =
     let newHeader : List ℕ = totalOf t ∷ linkOf header ∷ 0 ∷ extraBytesOf t ∷ (firstOf header + total low) ∷ [] in
     let add = inserted (slotWords t) new n (a .cost) in
     let old = render (set header 1 next) (cond (ltb k h) (add k low) low) in
-    let fresh = render newHeader (cond (ltb k h) high (add (k - h) high)) in
-    set (withSegment (withSegment t s old) next fresh) 2 next
+    let rest = render newHeader (cond (ltb k h) high (add (k - h) high)) in
+    set (withSegment (withSegment t s old) next rest) 2 next
 
 -- split only if the chosen segment lacks the slots
 unfoldable pub entered : List ℕ → Entry → ℕ → Area → List ℕ
@@ -212,17 +224,17 @@ placed d t n date new none = refuse 12 d
 placed d t n date new (some a) = success (a .first) n date (entered t new n a)
 
 -- 11: no empty entry of length at least n (1 for sizes 0 and −1). 12: such entries exist, none of them eligible. A refusal leaves d
-unfoldable pub enter : ℕ → List ℕ → ℕ → ℕ → ℕ → ℤ → ℕ → ℕ → ℕ → Outcome
-enter v d a b c asked job channel date =
+unfoldable pub enter : ℕ → List ℕ → Name → ℤ → ℕ → ℕ → ℕ → Outcome
+enter v d name asked job channel date =
     let size = sizeOf asked in
     let x = wordOf job channel in
     let t = tidied d (chain d) in
     let all = areas t (chain d) in
     let fit = eligibles all in
     let n = wanted size (map (λ r. r .size) fit) in
-    let new = entryOf (slotWords d) 256 a b c n x date in
+    let new = entryOf (slotWords d) tentativeStatus name n x date in
     ifSound v d λ _.
-    unless 7 (legalName a b c) d λ _.
+    unless 7 (legal name) d λ _.
     unless 8 (goodChannel job channel) d λ _.
     unless 9 (goodSize size && goodDate date) d λ _.
     unless 10 (isNone (openOn d x)) d λ _.

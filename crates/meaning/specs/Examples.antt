@@ -11,16 +11,17 @@ use Rattle.names.specs.Text.{bytes}
 use Rattle.names.specs.Radix.{wordsOfText}
 use Rattle.dates.specs.Dates.{wordOfDay}
 use Rattle.meaning.specs.declared.Op.{Op}
-use Rattle.meaning.specs.declared.Op.the-variants.{Lookup, Enter, Close, Abandon, Delete, Rename}
+use Rattle.meaning.specs.declared.Op.the-variants.{Lookup, Enter, Close, Delete, Rename}
 use Rattle.meaning.specs.declared.Name.{Name}
 use Rattle.meaning.specs.declared.Request.{Request}
 use Rattle.meaning.specs.declared.Answer.{Answer}
 use Rattle.meaning.specs.Words.{Entry, blocks, allEntries}
 use Rattle.meaning.specs.Sound.{fault}
-use Rattle.meaning.specs.Answers.{Outcome}
+use Rattle.meaning.specs.Answers.{Outcome, refusal}
 use Rattle.meaning.specs.Requests as Requests
-use Rattle.meaning.specs.Requests.{entryOf, render}
-use Rattle.meaning.specs.Batch.{serve, Batched, batch}
+use Rattle.meaning.specs.Kinds.{tentativeStatus, permanentStatus}
+use Rattle.meaning.specs.Requests.{entryOf, emptyEntry, render}
+use Rattle.meaning.specs.Batch.{serve, batch}
 use Rattle.meaning.specs.Listing.{sameBytes}
 
 -- a step of an example: a fresh start with E extra words, or a request
@@ -28,7 +29,7 @@ pub data Ask : Type 0 where
   start : ℕ → Ask
   request : Request → Ask
 
--- what is asked, and the answer's four numbers
+-- what is asked, and the answer's numbers, written out here: a table that took them from the meaning would follow its slips
 pub record Step : Type 0 where
   pub ask : Ask
   pub number : ℕ
@@ -39,18 +40,18 @@ pub record Step : Type 0 where
 -- a row of the table: a text and its three words; a day, its number and word; a run: V, the words that it begins with, its steps, and
 -- the lengths of all entries in the end; the same as one batch; or the fault's number of V and words
 pub data Case : Type 0 where
-  spelled : String → ℕ → ℕ → ℕ → Case
+  wordsFor : String → ℕ → ℕ → ℕ → Case
   dated : ℕ → ℕ → ℕ → ℕ → ℕ → Case
   run : ℕ → List ℕ → List Step → List ℕ → Case
   batched : ℕ → List ℕ → List Step → List ℕ → Case
   faulty : ℕ → List ℕ → ℕ → Case
 
 -- N segments of words that don't matter
-abbrev pub blank : ℕ → List ℕ
-blank n = replicate (512 * n) 0
+abbrev pub anyWords : ℕ → List ℕ
+anyWords n = replicate (512 * n) 0
 
-unfoldable pub nameOf : String → Name
-nameOf t =
+unfoldable pub nameIn : String → Name
+nameIn t =
     let w = wordsOfText (bytes t) in
     record { first = w .first; second = w .second; extension = w .extension }
 
@@ -59,8 +60,8 @@ ask op old new job channel size final date =
     request
     (record {
       op = op;
-      name = nameOf old;
-      «new_name» = nameOf new;
+      name = nameIn old;
+      «new_name» = nameIn new;
       job = job;
       channel = channel;
       size = size;
@@ -68,59 +69,63 @@ ask op old new job channel size final date =
       date = date;
     })
 
-abbrev pub entering : String → ℤ → ℕ → ℕ → ℕ → Ask
-entering name size job channel date = ask Enter name name job channel size (pos 0) date
+abbrev pub askEnter : String → ℤ → ℕ → ℕ → ℕ → Ask
+askEnter name size job channel date = ask Enter name name job channel size (pos 0) date
 
-abbrev pub closing : ℕ → ℕ → ℤ → Ask
-closing job channel final = ask Close "A        " "A        " job channel (pos 0) final 0
+abbrev pub askClose : ℕ → ℕ → ℤ → Ask
+askClose job channel final = ask Close "A        " "A        " job channel (pos 0) final 0
 
-abbrev pub deleting : String → Ask
-deleting name = ask Delete name name 0 0 (pos 0) (pos 0) 0
+abbrev pub askDelete : String → Ask
+askDelete name = ask Delete name name 0 0 (pos 0) (pos 0) 0
 
-abbrev pub looking : String → Ask
-looking name = ask Lookup name name 0 0 (pos 0) (pos 0) 0
+abbrev pub askLookup : String → Ask
+askLookup name = ask Lookup name name 0 0 (pos 0) (pos 0) 0
 
-abbrev pub renaming : String → String → Ask
-renaming old new = ask Rename old new 0 0 (pos 0) (pos 0) 0
+abbrev pub askRename : String → String → Ask
+askRename old new = ask Rename old new 0 0 (pos 0) (pos 0) 0
 
-abbrev pub gives : Ask → ℕ → ℕ → ℕ → ℕ → Step
-gives a number first length date = record { ask = a; number = number; first = first; length = length; date = date }
+-- carried out, with the entry's first block, length and date; or refused by a number
+abbrev pub gives : Ask → ℕ → ℕ → ℕ → Step
+gives a first length date = record { ask = a; number = 0; first = first; length = length; date = date }
+
+abbrev pub gets : Ask → ℕ → Step
+gets a number = record { ask = a; number = number; first = 0; length = 0; date = 0 }
 
 -- examples 3, 4 and 5: fresh V=494, N=4, E=0; then enter DAY.CHG, 30, job 0 channel 3, date 3556; then close at 12
 abbrev pub fresh3 : Step
-fresh3 = gives (start 0) 0 14 480 0
+fresh3 = gives (start 0) 14 480 0
 
 abbrev pub enter4 : Step
-enter4 = gives (entering "DAY   CHG" (pos 30) 0 3 3556) 0 14 30 3556
+enter4 = gives (askEnter "DAY   CHG" (pos 30) 0 3 3556) 14 30 3556
 
 abbrev pub close5 : Step
-close5 = gives (closing 0 3 (pos 12)) 0 14 12 3556
+close5 = gives (askClose 0 3 (pos 12)) 14 12 3556
 
 unfoldable pub table : List Case
 table =
-    spelled "DAY   CHG" 6465 0 5127
+    wordsFor "DAY   CHG" 6465 0 5127
     ∷ dated 15 3 1976 0 3556
     ∷ dated 29 2 1973 9 0
-    ∷ run 494 (blank 4) (fresh3 ∷ []) (480 ∷ [])
-    ∷ run 494 (blank 4) (fresh3 ∷ enter4 ∷ []) (30 ∷ 450 ∷ [])
-    ∷ run 494 (blank 4) (fresh3 ∷ enter4 ∷ close5 ∷ []) (12 ∷ 468 ∷ [])
-    ∷ run 494 (blank 4) (fresh3 ∷ enter4 ∷ gives (closing 0 3 (pos 31)) 16 0 0 0 ∷ []) (30 ∷ 450 ∷ [])
-    ∷ run 494 (blank 4) (fresh3 ∷ enter4 ∷ gives (entering "DAY   CHG" (pos 100) 0 4 3556) 0 44 100 3556 ∷ [])
+    ∷ run 494 (anyWords 4) (fresh3 ∷ []) (480 ∷ [])
+    ∷ run 494 (anyWords 4) (fresh3 ∷ enter4 ∷ []) (30 ∷ 450 ∷ [])
+    ∷ run 494 (anyWords 4) (fresh3 ∷ enter4 ∷ close5 ∷ []) (12 ∷ 468 ∷ [])
+    ∷ run 494 (anyWords 4) (fresh3 ∷ enter4 ∷ gets (askClose 0 3 (pos 31)) 16 ∷ []) (30 ∷ 450 ∷ [])
+    ∷ run 494 (anyWords 4) (fresh3 ∷ enter4 ∷ gives (askEnter "DAY   CHG" (pos 100) 0 4 3556) 44 100 3556 ∷ [])
     (30 ∷ 0 ∷ 100 ∷ 350 ∷ [])
-    ∷ run 173 (blank 1)
-    (gives (start 0) 0 8 165 0
-    ∷ gives (entering "A        " (pos 100) 0 1 0) 0 8 100 0
-    ∷ gives (closing 0 1 (pos 100)) 0 8 100 0
-    ∷ gives (entering "B        " (pos 5) 0 2 0) 0 108 5 0
-    ∷ gives (closing 0 2 (pos 5)) 0 108 5 0
-    ∷ gives (deleting "A        ") 0 8 100 0
-    ∷ gives (entering "C        " (pos 0) 0 3 0) 0 8 60 0
+    ∷ run 173 (anyWords 1)
+    (gives (start 0) 8 165 0
+    ∷ gives (askEnter "A        " (pos 100) 0 1 0) 8 100 0
+    ∷ gives (askClose 0 1 (pos 100)) 8 100 0
+    ∷ gives (askEnter "B        " (pos 5) 0 2 0) 108 5 0
+    ∷ gives (askClose 0 2 (pos 5)) 108 5 0
+    ∷ gives (askDelete "A        ") 8 100 0
+    ∷ gives (askEnter "C        " (pos 0) 0 3 0) 8 60 0
     ∷ [])
     (60 ∷ 40 ∷ 5 ∷ 60 ∷ [])
-    ∷ run 15 (blank 1) (gives (start 0) 0 8 7 0 ∷ gives (entering "A        " (pos 0) 0 3 0) 0 8 4 0 ∷ []) (4 ∷ 3 ∷ [])
-    ∷ run 8 (blank 1) (gives (start 0) 0 8 0 0 ∷ gives (entering "A        " (negsuc 0) 0 3 0) 11 0 0 0 ∷ []) (0 ∷ [])
-    ∷ run 494 (blank 4)
-    (fresh3 ∷ enter4 ∷ close5 ∷ gives (renaming "DAY   CHG" "DAY   CHG") 14 0 0 0 ∷ [])
+    ∷ run 15 (anyWords 1) (gives (start 0) 8 7 0 ∷ gives (askEnter "A        " (pos 0) 0 3 0) 8 4 0 ∷ []) (4 ∷ 3 ∷ [])
+    ∷ run 8 (anyWords 1) (gives (start 0) 8 0 0 ∷ gets (askEnter "A        " (negsuc 0) 0 3 0) 11 ∷ []) (0 ∷ [])
+    ∷ run 494 (anyWords 4)
+    (fresh3 ∷ enter4 ∷ close5 ∷ gets (askRename "DAY   CHG" "DAY   CHG") 14 ∷ [])
     (12 ∷ 468 ∷ [])
     ∷ []
 
@@ -128,14 +133,18 @@ table =
 abbrev pub oneSegment : List Entry → List ℕ
 oneSegment es = render (1 ∷ 0 ∷ 1 ∷ 0 ∷ 8 ∷ []) es
 
+-- a name of one word
+abbrev pub short : ℕ → Name
+short a = record { first = a; second = 0; extension = 0 }
+
 abbrev pub file : ℕ → ℕ → Entry
-file name length = entryOf 7 1024 name 0 0 length 0 0
+file a length = entryOf 7 permanentStatus (short a) length 0 0
 
 abbrev pub area : ℕ → Entry
-area length = entryOf 7 512 0 0 0 length 0 0
+area length = emptyEntry 7 length
 
 abbrev pub tentative : ℕ → ℕ → Entry
-tentative length channel = entryOf 7 256 1600 0 0 length channel 0
+tentative length channel = entryOf 7 tentativeStatus (short 1600) length channel 0
 
 -- two segments in use, the second with other numbers in the word where segment 1 has H
 abbrev pub twoSegments : List ℕ
@@ -149,7 +158,7 @@ filesFrom k (suc n) = file (1600 + k) 1 ∷ filesFrom (k + 1) n
 -- two segments, of which one is open and full: 34 files, a tentative entry with its area of 10, and 35 files
 abbrev pub fullSegment : List ℕ
 fullSegment =
-    render (2 ∷ 0 ∷ 1 ∷ 0 ∷ 10 ∷ []) (filesFrom 1 34 ++ tentative 1 3 ∷ area 10 ∷ filesFrom 35 35) ++ blank 1
+    render (2 ∷ 0 ∷ 1 ∷ 0 ∷ 10 ∷ []) (filesFrom 1 34 ++ tentative 1 3 ∷ area 10 ∷ filesFrom 35 35) ++ anyWords 1
 
 -- the slips: a sum of V + 65,536; a tentative entry before a file, and before the marker; zero lengths, legal for every kind; H read in
 -- another segment than 1; a looped chain; one channel word or one name twice; refusals in number order, where two would apply; a close
@@ -166,49 +175,49 @@ slips =
     ∷ faulty 20 (set twoSegments 513 1) 3
     ∷ faulty 100 (oneSegment (tentative 10 3 ∷ area 10 ∷ tentative 10 3 ∷ area 62 ∷ [])) 6
     ∷ faulty 100 (oneSegment (file 1600 10 ∷ area 10 ∷ file 1600 72 ∷ [])) 6
-    ∷ faulty 65536 (blank 1) 1
+    ∷ faulty 65536 (anyWords 1) 1
     ∷ run 100 (oneSegment (file 1600 50 ∷ area 42 ∷ []))
-    (gives (entering "a        " (negsuc 1) 1 16 1) 7 0 0 0
-    ∷ gives (entering "B        " (negsuc 1) 1 16 1) 8 0 0 0
-    ∷ gives (entering "B        " (negsuc 1) 0 15 1) 9 0 0 0
-    ∷ gives (entering "B        " (pos 93) 0 15 0) 11 0 0 0
-    ∷ gives (closing 3 3 (pos 1)) 8 0 0 0
-    ∷ gives (closing 2 3 (negsuc 0)) 15 0 0 0
-    ∷ gives (renaming "B        " "A        ") 13 0 0 0
-    ∷ gives (renaming "B        " "B B      ") 7 0 0 0
-    ∷ gives (deleting "B        ") 13 0 0 0
+    (gets (askEnter "a        " (negsuc 1) 1 16 1) 7
+    ∷ gets (askEnter "B        " (negsuc 1) 1 16 1) 8
+    ∷ gets (askEnter "B        " (negsuc 1) 0 15 1) 9
+    ∷ gets (askEnter "B        " (pos 93) 0 15 0) 11
+    ∷ gets (askClose 3 3 (pos 1)) 8
+    ∷ gets (askClose 2 3 (negsuc 0)) 15
+    ∷ gets (askRename "B        " "A        ") 13
+    ∷ gets (askRename "B        " "B B      ") 7
+    ∷ gets (askDelete "B        ") 13
     ∷ [])
     (50 ∷ 42 ∷ [])
     ∷ run 100 (oneSegment (file 1600 50 ∷ area 42 ∷ []))
-    (gives (entering "A        " (pos 10) 0 3 0) 0 58 10 0
-    ∷ gives (closing 0 3 (pos 7)) 0 58 7 0
-    ∷ gives (looking "A        ") 0 58 7 0
+    (gives (askEnter "A        " (pos 10) 0 3 0) 58 10 0
+    ∷ gives (askClose 0 3 (pos 7)) 58 7 0
+    ∷ gives (askLookup "A        ") 58 7 0
     ∷ [])
     (50 ∷ 7 ∷ 35 ∷ [])
-    ∷ run 100 (blank 1)
-    (gives (start 0) 0 8 92 0
-    ∷ gives (entering "A     X  " (pos 10) 0 1 0) 0 8 10 0
-    ∷ gives (closing 0 1 (pos 10)) 0 8 10 0
-    ∷ gives (entering "ABCE     " (pos 10) 0 2 0) 0 18 10 0
-    ∷ gives (closing 0 2 (pos 10)) 0 18 10 0
-    ∷ gives (entering "ABCD     " (pos 10) 0 3 0) 0 28 10 0
-    ∷ gives (closing 0 3 (pos 10)) 0 28 10 0
-    ∷ gives (looking "ABCE     ") 0 18 10 0
-    ∷ gives (renaming "ABCD     " "B     X  ") 0 28 10 0
-    ∷ gives (deleting "A     X  ") 0 8 10 0
-    ∷ gives (looking "ABCE     ") 0 18 10 0
+    ∷ run 100 (anyWords 1)
+    (gives (start 0) 8 92 0
+    ∷ gives (askEnter "A     X  " (pos 10) 0 1 0) 8 10 0
+    ∷ gives (askClose 0 1 (pos 10)) 8 10 0
+    ∷ gives (askEnter "ABCE     " (pos 10) 0 2 0) 18 10 0
+    ∷ gives (askClose 0 2 (pos 10)) 18 10 0
+    ∷ gives (askEnter "ABCD     " (pos 10) 0 3 0) 28 10 0
+    ∷ gives (askClose 0 3 (pos 10)) 28 10 0
+    ∷ gives (askLookup "ABCE     ") 18 10 0
+    ∷ gives (askRename "ABCD     " "B     X  ") 28 10 0
+    ∷ gives (askDelete "A     X  ") 8 10 0
+    ∷ gives (askLookup "ABCE     ") 18 10 0
     ∷ [])
     (10 ∷ 10 ∷ 10 ∷ 62 ∷ [])
     ∷ run 90 fullSegment
-    (gives (entering "DAY   CHG" (pos 3) 0 4 3556) 0 45 3 3556 ∷ [])
+    (gives (askEnter "DAY   CHG" (pos 3) 0 4 3556) 45 3 3556 ∷ [])
     (replicate 34 1 ++ 1 ∷ 0 ∷ 3 ∷ 7 ∷ replicate 35 1)
     ∷ batched 100 (oneSegment (file 1600 50 ∷ area 42 ∷ []))
-    (gives (deleting "B        ") 13 0 0 0
-    ∷ gives (entering "C        " (pos 10) 0 3 0) 0 58 10 0
-    ∷ gives (closing 0 3 (pos 31)) 16 0 0 0
-    ∷ gives (closing 0 3 (pos 7)) 0 58 7 0
-    ∷ gives (looking "C        ") 0 58 7 0
-    ∷ gives (deleting "A        ") 0 8 50 0
+    (gets (askDelete "B        ") 13
+    ∷ gives (askEnter "C        " (pos 10) 0 3 0) 58 10 0
+    ∷ gets (askClose 0 3 (pos 31)) 16
+    ∷ gives (askClose 0 3 (pos 7)) 58 7 0
+    ∷ gives (askLookup "C        ") 58 7 0
+    ∷ gives (askDelete "A        ") 8 50 0
     ∷ [])
     (50 ∷ 7 ∷ 35 ∷ [])
     ∷ []
@@ -237,14 +246,14 @@ abbrev pub requested : Ask → List Request → List Request
 requested (start e) qs = qs
 requested (request q) qs = q ∷ qs
 
-unfoldable pub asked : List Step → List Request
-asked [] = []
-asked (s ∷ ss) = requested (s .ask) (asked ss)
+unfoldable pub requestsIn : List Step → List Request
+requestsIn [] = []
+requestsIn (s ∷ ss) = requested (s .ask) (requestsIn ss)
 
 -- room for the answers
-unfoldable pub roomFor : List Step → List Answer
-roomFor [] = []
-roomFor (s ∷ ss) = record { number = 0; first = 0; length = 0; date = 0 } ∷ roomFor ss
+unfoldable pub answerRoom : List Step → List Answer
+answerRoom [] = []
+answerRoom (s ∷ ss) = refusal 0 ∷ answerRoom ss
 
 -- each answer as the step says
 unfoldable pub allAnswered : List Answer → List Step → Bool
@@ -256,14 +265,14 @@ allAnswered (a ∷ us) (s ∷ ss) = let r = allAnswered us ss in answered a s &&
 -- as one batch: each answer as the step says, and what is left; 18 where there is no room for the answers
 unfoldable pub batches : ℕ → List ℕ → List Step → List ℕ → Bool
 batches v d ss ns =
-    let b = batch v d (asked ss) (roomFor ss) in
+    let b = batch v d (requestsIn ss) (answerRoom ss) in
     eqb (b .number) 0
     && allAnswered (b .answers) ss
     && left v (b .words) ns
-    && eqb (batch v d (asked ss) [] .number) 18
+    && eqb (batch v d (requestsIn ss) [] .number) 18
 
 abbrev pub right : Case → Bool
-right (spelled t a b c) =
+right (wordsFor t a b c) =
     let w = wordsOfText (bytes t) in
     eqb (w .number) 0 && eqb (w .first) a && eqb (w .second) b && eqb (w .extension) c
 right (dated d m y number word) = let w = wordOfDay d m y in eqb (w .number) number && eqb (w .word) word

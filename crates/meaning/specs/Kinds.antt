@@ -6,10 +6,23 @@ use Rattle.meaning.specs.declared.Kind.{Kind}
 use Rattle.meaning.specs.declared.Kind.the-variants.{Tentative, Empty, Permanent, End, Unknown}
 
 -- The status is exactly 256 tentative, 512 empty, 1024 permanent, 2048 end
+abbrev pub tentativeStatus : ℕ
+tentativeStatus = 256
+
+abbrev pub emptyStatus : ℕ
+emptyStatus = 512
+
+abbrev pub permanentStatus : ℕ
+permanentStatus = 1024
+
+abbrev pub endStatus : ℕ
+endStatus = 2048
+
+-- any other number is unknown
 unfoldable pub kindOf : ℕ → Kind
 kindOf status =
-    cond (eqb status 256) Tentative
-    (cond (eqb status 512) Empty (cond (eqb status 1024) Permanent (cond (eqb status 2048) End Unknown)))
+    cond (eqb status tentativeStatus) Tentative
+    (cond (eqb status emptyStatus) Empty (cond (eqb status permanentStatus) Permanent (cond (eqb status endStatus) End Unknown)))
 
 abbrev pub isTentative : Kind → Bool
 isTentative Tentative = true

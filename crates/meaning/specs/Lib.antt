@@ -1,5 +1,6 @@
 pub mod Kinds
 pub mod Words
+pub mod Keys
 pub mod Sound
 pub mod Answers
 pub mod Requests

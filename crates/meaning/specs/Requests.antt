@@ -1,42 +1,48 @@
 -- The requests of document 01 but enter: each from V, the words and what is asked to the answer and the words after.
 use Prim.Native.Nat.{ℕ, _+_, _*_, _-_}
-use mathlib.Core.Bool.{Bool, true, false, cond, _&&_, _||_, not}
+use mathlib.Core.Bool.{Bool, cond, _&&_, _||_, not}
 use mathlib.Core.List.{List, [], _∷_, _++_}
 use mathlib.Core.Option.{Option, none, some}
 use lib.ListN.{getD, take, replicate}
 use lib.IntN.{ℤ, pos, negsuc}
 use lib.Dec.{eqb, leb}
 use Rattle.names.specs.Radix.{legalName}
+use Rattle.meaning.specs.declared.Name.{Name}
+use Rattle.meaning.specs.Kinds.{emptyStatus, permanentStatus, endStatus}
 use Rattle.meaning.specs.Words.{segments, firstData, slotWords, Entry, Row}
-use Rattle.meaning.specs.Words.{statusWord, nameWord, name2Word, extensionWord, lengthWord, channelWord, blocks, dateOf}
+use Rattle.meaning.specs.Words.{statusWord, nameWord, name2Word, extensionWord, lengthWord, channelWord, nameOf, blocks, dateOf}
 use Rattle.meaning.specs.Sound.{bad1}
 use Rattle.meaning.specs.Answers.{Outcome, refuse, success, ifSound, unless, onRow, isNone, fileOf, openOn, Write, put, write}
 
+-- a requested name
+abbrev pub legal : Name → Bool
+legal n = legalName (n .first) (n .second) (n .extension)
+
 -- success with an entry that keeps its length and date
-unfoldable pub shown : Row → List ℕ → Outcome
-shown r after = success (r .first) (blocks (r .entry)) (dateOf (r .entry)) after
+unfoldable pub successWith : Row → List ℕ → Outcome
+successWith r after = success (r .first) (blocks (r .entry)) (dateOf (r .entry)) after
 
 -- Lookup changes nothing
-unfoldable pub lookup : ℕ → List ℕ → ℕ → ℕ → ℕ → Outcome
-lookup v d a b c =
+unfoldable pub lookup : ℕ → List ℕ → Name → Outcome
+lookup v d name =
     ifSound v d λ _.
-    unless 7 (legalName a b c) d λ _.
-    onRow 13 (fileOf d a b c) d λ r.
-    shown r d
+    unless 7 (legal name) d λ _.
+    onRow 13 (fileOf d name) d λ r.
+    successWith r d
 
 -- Delete and abandon change the status word to 512 and no other word
 unfoldable pub emptying : Row → List Write
-emptying r = put (r .at) statusWord 512 ∷ []
+emptying r = put (r .at) statusWord emptyStatus ∷ []
 
-unfoldable pub delete : ℕ → List ℕ → ℕ → ℕ → ℕ → Outcome
-delete v d a b c =
+unfoldable pub delete : ℕ → List ℕ → Name → Outcome
+delete v d name =
     ifSound v d λ _.
-    unless 7 (legalName a b c) d λ _.
-    onRow 13 (fileOf d a b c) d λ r.
-    shown r (write d (emptying r))
+    unless 7 (legal name) d λ _.
+    onRow 13 (fileOf d name) d λ r.
+    successWith r (write d (emptying r))
 
 -- job 0 or 2, and channel at most 15
-abbrev pub channelLimit : ℕ
+unfoldable pub channelLimit : ℕ
 channelLimit = 15
 
 unfoldable pub goodChannel : ℕ → ℕ → Bool
@@ -51,20 +57,24 @@ abandon v d job channel =
     ifSound v d λ _.
     unless 8 (goodChannel job channel) d λ _.
     onRow 15 (openOn d (wordOf job channel)) d λ r.
-    shown r (write d (emptying r))
+    successWith r (write d (emptying r))
 
 -- Rename changes the three name words
-unfoldable pub renaming : Row → ℕ → ℕ → ℕ → List Write
-renaming r a b c = put (r .at) nameWord a ∷ put (r .at) name2Word b ∷ put (r .at) extensionWord c ∷ []
+unfoldable pub renaming : Row → Name → List Write
+renaming r new =
+    put (r .at) nameWord (new .first)
+    ∷ put (r .at) name2Word (new .second)
+    ∷ put (r .at) extensionWord (new .extension)
+    ∷ []
 
 -- 14: the new name is a permanent file, itself included
-unfoldable pub rename : ℕ → List ℕ → ℕ → ℕ → ℕ → ℕ → ℕ → ℕ → Outcome
-rename v d a b c a′ b′ c′ =
+unfoldable pub rename : ℕ → List ℕ → Name → Name → Outcome
+rename v d old new =
     ifSound v d λ _.
-    unless 7 (legalName a b c && legalName a′ b′ c′) d λ _.
-    onRow 13 (fileOf d a b c) d λ r.
-    unless 14 (isNone (fileOf d a′ b′ c′)) d λ _.
-    shown r (write d (renaming r a′ b′ c′))
+    unless 7 (legal old && legal new) d λ _.
+    onRow 13 (fileOf d old) d λ r.
+    unless 14 (isNone (fileOf d new)) d λ _.
+    successWith r (write d (renaming r new))
 
 -- A permanent entry of the same name becomes empty (status only)
 unfoldable pub replacing : Option Row → List Write
@@ -75,11 +85,11 @@ replacing (some old) = emptying old
 unfoldable pub closing : List ℕ → Row → ℕ → List Write
 closing d r n =
     let next = r .at + slotWords d in
-    put (r .at) statusWord 1024
+    put (r .at) statusWord permanentStatus
     ∷ put (r .at) lengthWord n
     ∷ put (r .at) channelWord 0
     ∷ put next lengthWord (getD d (next + lengthWord) 0 + (blocks (r .entry) - n))
-    ∷ replacing (fileOf d (getD (r .entry) nameWord 0) (getD (r .entry) name2Word 0) (getD (r .entry) extensionWord 0))
+    ∷ replacing (fileOf d (nameOf (r .entry)))
 
 -- a final length: a count of blocks, or one below 0
 unfoldable pub finalLength : ℤ → Option ℕ
@@ -101,9 +111,13 @@ close v d job channel final =
     closed d r (finalLength final)
 
 -- an entry of w words: its first seven, and extras 0
-unfoldable pub entryOf : ℕ → ℕ → ℕ → ℕ → ℕ → ℕ → ℕ → ℕ → Entry
-entryOf w status a b c length channel date =
-    status ∷ a ∷ b ∷ c ∷ length ∷ channel ∷ date ∷ replicate (w - 7) 0
+unfoldable pub entryOf : ℕ → ℕ → Name → ℕ → ℕ → ℕ → Entry
+entryOf w status name length channel date =
+    status ∷ name .first ∷ name .second ∷ name .extension ∷ length ∷ channel ∷ date ∷ replicate (w - 7) 0
+
+-- an empty entry of this length, other words 0
+abbrev pub emptyEntry : ℕ → ℕ → Entry
+emptyEntry w length = entryOf w emptyStatus (record { first = 0; second = 0; extension = 0 }) length 0 0
 
 -- the words of entries, one after the other, before the words t
 unfoldable pub flat : List Entry → List ℕ → List ℕ
@@ -112,14 +126,14 @@ flat (e ∷ es) t = e ++ flat es t
 
 -- a segment from its header and entries: then the marker's status, and all words after it 0
 unfoldable pub render : List ℕ → List Entry → List ℕ
-render header es = take 512 (header ++ flat es (2048 ∷ replicate 512 0))
+render header es = take 512 (header ++ flat es (endStatus ∷ replicate 512 0))
 
 -- Fresh start (N from the slice, V, E): all words 0 but segment 1's header (N, 0, 1, 2E, 6+2N), one empty entry of length V−6−2N,
 -- and a marker
 unfoldable pub freshWords : ℕ → List ℕ → ℕ → List ℕ
 freshWords v d extra =
     render (segments d ∷ 0 ∷ 1 ∷ 2 * extra ∷ firstData d ∷ [])
-    (entryOf (7 + extra) 512 0 0 0 (v - firstData d) 0 0 ∷ [])
+    (emptyEntry (7 + extra) (v - firstData d) ∷ [])
     ++ replicate (512 * (segments d - 1)) 0
 
 -- It tests only 1, then 2 for E above 16; success answers the empty entry

@@ -2,12 +2,14 @@
 use Prim.Native.Nat.{ℕ, zero, suc, _+_, _*_, _%_}
 use mathlib.Core.Bool.{Bool, true, false, cond, _&&_, _||_, not}
 use mathlib.Core.List.{List, [], _∷_}
-use lib.ListN.{length, getD}
+use lib.ListN.{length}
 use lib.Dec.{eqb, leb, ltb}
+use Rattle.meaning.specs.declared.Name.{Name}
 use Rattle.meaning.specs.Kinds.{isTentative, isEmpty, isPermanent, isEnd, isUnknown}
-use Rattle.meaning.specs.Words.{segments, firstData, segment, totalOf, linkOf, extraBytesOf, firstOf, highest, slotWords, Entry}
-use Rattle.meaning.specs.Words.{nameWord, name2Word, extensionWord, kind, channelOf, named, slots, upto, entries, total}
-use Rattle.meaning.specs.Words.{chainFrom, reached, chain, allEntries}
+use Rattle.meaning.specs.Words.{segments, firstData, segment, totalOf, extraBytesOf, firstOf, highest, slotWords, Entry}
+use Rattle.meaning.specs.Words.{nameOf, kind, slots, upto, entries, total}
+use Rattle.meaning.specs.Words.{reached, chain, allEntries}
+use Rattle.meaning.specs.Keys.{clash}
 
 -- whether some element of a list passes a test
 module _ {A : Type 0} where
@@ -58,13 +60,13 @@ unfoldable pub unmarked : List Entry → Bool
 unmarked es = not (any (λ e. isEnd (kind e)) es)
 
 -- a name word of a permanent or tentative entry above 63,999
-unfoldable pub longName : ℕ → ℕ → ℕ → Bool
-longName a b c = ltb 63999 a || ltb 63999 b || ltb 63999 c
+unfoldable pub longName : Name → Bool
+longName n = ltb 63999 (n .first) || ltb 63999 (n .second) || ltb 63999 (n .extension)
 
 unfoldable pub badName : Entry → Bool
 badName e =
     (isPermanent (kind e) || isTentative (kind e))
-    && longName (getD e nameWord 0) (getD e name2Word 0) (getD e extensionWord 0)
+    && longName (nameOf e)
 
 unfoldable pub beginsEmpty : List Entry → Bool
 beginsEmpty [] = false
@@ -92,12 +94,7 @@ filled v d b (s ∷ ss) = let r = filled v d (b + total (entries d s)) ss in eqb
 unfoldable pub bad5 : ℕ → List ℕ → Bool
 bad5 v d = not (filled v d (firstData d) (chain d))
 
--- two permanent entries with equal names, or two tentative entries with equal channel words
-unfoldable pub clash : Entry → Entry → Bool
-clash e f =
-    (isPermanent (kind e) && isPermanent (kind f) && named (getD e nameWord 0) (getD e name2Word 0) (getD e extensionWord 0) f)
-    || (isTentative (kind e) && isTentative (kind f) && eqb (channelOf f) (channelOf e))
-
+-- two permanent entries with equal names, or two tentative entries with equal channel words: some entry clashes with a later one
 unfoldable pub clashes : List Entry → Bool
 clashes [] = false
 clashes (e ∷ es) = let r = clashes es in any (clash e) es || r

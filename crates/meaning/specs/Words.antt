@@ -1,11 +1,16 @@
 -- The words of a directory (document 01, "The volume as we handle it" and "One segment"): segments, slots, entries, the chain, rows.
 -- A directory is the list of its words.
+--
+-- Three words of antt that a reader meets in all of specs/. `let r = .. in` names what a recursion gives before a test picks one of two
+-- ways. `unfoldable` marks a definition that a proof opens only where it says so, `abbrev` one that is open everywhere: both mean just
+-- what their equations say.
 use Prim.Native.Nat.{ℕ, zero, suc, _+_, _*_, _-_, _/_}
-use mathlib.Core.Bool.{Bool, true, false, cond, _&&_}
+use mathlib.Core.Bool.{Bool, cond, _&&_}
 use mathlib.Core.List.{List, [], _∷_, _++_}
 use lib.ListN.{length, getD, take, drop}
 use lib.Dec.{eqb}
 use Rattle.meaning.specs.declared.Kind.{Kind}
+use Rattle.meaning.specs.declared.Name.{Name}
 use Rattle.meaning.specs.Kinds.{kindOf, isEnd}
 
 -- N directory segments: the slice has exactly 512·N words
@@ -92,8 +97,13 @@ channelOf e = getD e channelWord 0
 abbrev pub dateOf : Entry → ℕ
 dateOf e = getD e dateWord 0
 
-unfoldable pub named : ℕ → ℕ → ℕ → Entry → Bool
-named a b c e = eqb (getD e nameWord 0) a && eqb (getD e name2Word 0) b && eqb (getD e extensionWord 0) c
+-- the name of an entry: its three name words
+abbrev pub nameOf : Entry → Name
+nameOf e = record { first = getD e nameWord 0; second = getD e name2Word 0; extension = getD e extensionWord 0 }
+
+-- two names are the same where their three words are
+unfoldable pub sameName : Name → Name → Bool
+sameName n m = eqb (n .first) (m .first) && eqb (n .second) (m .second) && eqb (n .extension) (m .extension)
 
 -- n slots of w words each
 unfoldable pub chunks : ℕ → ℕ → List ℕ → List Entry

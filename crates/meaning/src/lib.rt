@@ -1,4 +1,18 @@
-// The vocabulary of document 01 as plain types. What they mean stands in specs/.
+// The vocabulary of document 01 as plain types and named numbers. What they mean stands in specs/, under the same names.
+ghost use mathlib.Core.Path.{_≡_};
+ghost use Rattle.meaning.specs.Answers.{refusal, granted};
+
+// The statuses of a slot.
+pub const TENTATIVE: u16 = 256;
+
+pub const EMPTY: u16 = 512;
+
+pub const PERMANENT: u16 = 1024;
+
+pub const END: u16 = 2048;
+
+// The highest channel of a job.
+pub const CHANNEL_LIMIT: u16 = 15;
 
 // What a status word says of its slot.
 pub enum Kind {
@@ -26,6 +40,12 @@ pub struct Name {
     pub extension: u16,
 }
 
+// What an entry is known by: a permanent file by its name, a tentative entry by its channel word.
+pub enum Key {
+    File(Name),
+    Open(u16),
+}
+
 // One request of a batch. A request passes over the fields that it has no use for.
 pub struct Request {
     pub op: Op,
@@ -44,4 +64,27 @@ pub struct Answer {
     pub first: u16,
     pub length: u16,
     pub date: u16,
+}
+
+// The answer of a refusal, and that of a success. No other place writes the fields of an answer.
+pub fn refused(number: u16) -> Answer
+    ensures { λ r. ⌜ r ≡ refusal number ⌝ }
+{
+    Answer {
+        number,
+        first: 0,
+        length: 0,
+        date: 0,
+    }
+}
+
+pub fn succeeded(first: u16, length: u16, date: u16) -> Answer
+    ensures { λ r. ⌜ r ≡ granted first length date ⌝ }
+{
+    Answer {
+        number: 0,
+        first,
+        length,
+        date,
+    }
 }

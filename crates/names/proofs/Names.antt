@@ -15,7 +15,7 @@ use lib.Dec.{eqb, leb, ltb}
 use Rattle.names.specs.Text.{bytes}
 use Rattle.names.specs.Radix.{space, isLetter, isDigit, alphabet, shown, place, codeOf, packed, packedAt, spelled, textOf, inName, inText}
 use Rattle.names.specs.Radix.{blank, padded, legalText, spells, legalName, wordsOfText, textOfWords}
-use Rattle.names.specs.Steps.{Coded, stepOf, fineIn}
+use Rattle.names.specs.Steps.{Coded, fieldStep, fineIn}
 use Rattle.names.specs.declared.radix.Field.{Field}
 use Rattle.names.specs.declared.radix.Field.the-variants.{Characters, Spaces, Wrong}
 use Rattle.names.specs.declared.radix.NameWords.{NameWords}
@@ -178,7 +178,7 @@ in-spaces : (x : Bool) (l : List ℕ) → x && blank l ≡ runIn (cond x Spaces 
 in-spaces true l = refl
 in-spaces false l = refl
 
-pub run-step : (f : Field) (b : ℕ) (l : List ℕ) → runIn f (b ∷ l) ≡ runIn (stepOf f b) l
+pub run-step : (f : Field) (b : ℕ) (l : List ℕ) → runIn f (b ∷ l) ≡ runIn (fieldStep f b) l
 unfolding padded blank
 run-step Characters b l = in-characters (eqb b space) (inName b) l
 run-step Spaces b l = in-spaces (eqb b space) l
@@ -191,7 +191,7 @@ run-none Spaces = refl
 run-none Wrong = refl
 
 -- the same, at a place of the bytes
-pub run-next : (f : Field) (l : List ℕ) (i : ℕ) → i < length l → runIn (stepOf f (getD l i 0)) (drop (i + 1) l) ≡ runIn f (drop i l)
+pub run-next : (f : Field) (l : List ℕ) (i : ℕ) → i < length l → runIn (fieldStep f (getD l i 0)) (drop (i + 1) l) ≡ runIn f (drop i l)
 run-next f l i h = rw (add-one, ← run-step f (getD l i 0) (drop (suc i) l), ← drop-cons l i 0 h)
 
 pub run-end : (f : Field) (l : List ℕ) (i : ℕ) → length l ≤ i → runIn f (drop i l) ≡ fineIn f

@@ -13,10 +13,10 @@ pub record Coded (b r : ℕ) : Type 0 where
   pub small : r < 40
 
 -- a field read byte by byte
-abbrev pub stepOf : Field → ℕ → Field
-stepOf Characters b = cond (eqb b space) Spaces (cond (inName b) Characters Wrong)
-stepOf Spaces b = cond (eqb b space) Spaces Wrong
-stepOf Wrong b = Wrong
+abbrev pub fieldStep : Field → ℕ → Field
+fieldStep Characters b = cond (eqb b space) Spaces (cond (inName b) Characters Wrong)
+fieldStep Spaces b = cond (eqb b space) Spaces Wrong
+fieldStep Wrong b = Wrong
 
 abbrev pub fineIn : Field → Bool
 fineIn Characters = true

@@ -4,7 +4,7 @@ ghost use mathlib.Core.Bool.{true};
 ghost use Prim.Native.Nat.{_+_, _<_};
 ghost use Rattle.names.specs.Radix.{shown, packed, packedAt, inName, inText, padded, legalText, legalName};
 ghost use Rattle.names.specs.Radix.{wordsOfText, textOfWords};
-ghost use Rattle.names.specs.Steps.{Coded, stepOf, fineIn};
+ghost use Rattle.names.specs.Steps.{Coded, fieldStep, fineIn};
 
 // The byte shown for each code.
 const ALPHABET: [u8; 40] = [
@@ -115,7 +115,7 @@ fn pack(x: u8, y: u8, z: u8) -> u16
 }
 
 fn step(f: Field, b: u8) -> Field
-    ensures { λ r. ⌜ r ≡ stepOf f b ⌝ }
+    ensures { λ r. ⌜ r ≡ fieldStep f b ⌝ }
 {
     match f {
         Field::Characters => {

@@ -4,6 +4,7 @@ use Prim.Native.Nat.{ℕ, zero, suc, _+_, _-_, _≤_, _<_}
 use mathlib.Core.Path.{_≡_, refl, sym, ap, _∙_}
 use mathlib.Core.Bool.{Bool, true, false, cond}
 use mathlib.Core.List.{List, [], _∷_}
+use mathlib.Core.Option.{Option, none}
 use native.Mathlib.Omega.{arith}
 use native.Mathlib.Nat.{zero-add, suc-add}
 use lib.ListN.{drop}
@@ -11,13 +12,14 @@ use lib.Dec.{eqb}
 use borrow.Author.Tests.{eq-eqb, ne-eqb, eqb-true}
 use Rattle.meaning.specs.Words.{Row, rows}
 use Rattle.meaning.specs.Sound.{fault}
-use Rattle.cursor.specs.Cursor.{past, firstSlot, rowsAt, entryStep, stepOf, stepAt}
+use Rattle.cursor.specs.Cursor.{past, firstSlot, rowsAt, entryStep, firstStep, stepAt}
 use Rattle.cursor.specs.declared.Cursor.{Cursor}
 use Rattle.cursor.specs.declared.Seen.{Seen}
 use Rattle.cursor.specs.declared.Step.the-variants.{Entry, End}
 use Rattle.cursor.proofs.Walking.{On, begins, from-start, step-on, passed}
-use Rattle.reader.specs.Read.{numberOf, readRows, readStep, readAt, pastStep, skipped, placeAfter, rowAt}
+use Rattle.reader.specs.Read.{Answers, seenIn, readAt, pastStep, skipped, placeAfter, firstRow, rowAt}
 use Rattle.reader.specs.declared.Read.{Read}
+use Rattle.reader.specs.declared.Read.the-variants as read
 use Rattle.reader.specs.declared.Read.the-variants.{Refused}
 
 -- one step, of n
@@ -65,56 +67,78 @@ move-more d c k m n = go (eqb k 0)
     go false = refl
 
 -- what is read of rows, by way of a step
-read-step : (rs : List Row) → readStep (stepOf rs) ≡ readRows rs
+read-step : (rs : List Row) → seenIn (firstStep rs) ≡ firstRow rs
 read-step [] = refl
 read-step (r ∷ rs) = refl
 
 -- what is read after n entries, on the way
-abbrev reads : ℕ → List ℕ → Cursor → Read
-reads n d c = readStep (stepAt d (skipped n d c))
+abbrev reads : ℕ → List ℕ → Cursor → Option Seen
+reads n d c = seenIn (stepAt d (skipped n d c))
 
 module _ {v : ℕ} {d : List ℕ} where
   by-rows : (n : ℕ) (c : Cursor) (o : On v d c)
-      → ((r : Row) (rs : List Row) → rowsAt d c ≡ r ∷ rs → reads n d (past r) ≡ readRows (drop n rs))
-      → reads (suc n) d c ≡ readRows (drop (suc n) (rowsAt d c))
+      → ((r : Row) (rs : List Row) → rowsAt d c ≡ r ∷ rs → reads n d (past r) ≡ firstRow (drop n rs))
+      → reads (suc n) d c ≡ firstRow (drop (suc n) (rowsAt d c))
   unfolding skipped
   by-rows n c o next = go (rowsAt d c) refl
     where
-      go : (rs : List Row) → rowsAt d c ≡ rs → reads (suc n) d c ≡ readRows (drop (suc n) rs)
+      go : (rs : List Row) → rowsAt d c ≡ rs → reads (suc n) d c ≡ firstRow (drop (suc n) rs)
       go [] e =
-          let f : stepAt d c ≡ End = step-on o ∙ ap stepOf e in
+          let f : stepAt d c ≡ End = step-on o ∙ ap firstStep e in
           rw (f, skip-end n d c f, f)
       go (r ∷ rs) e =
-          let f : stepAt d c ≡ entryStep r = step-on o ∙ ap stepOf e in
+          let f : stepAt d c ≡ entryStep r = step-on o ∙ ap firstStep e in
           rw f (next r rs e)
 
-  read-on : (n : ℕ) (c : Cursor) → On v d c → reads n d c ≡ readRows (drop n (rowsAt d c))
+  read-on : (n : ℕ) (c : Cursor) → On v d c → reads n d c ≡ firstRow (drop n (rowsAt d c))
   unfolding skipped
   read-on zero c o = rw (step-on o) (read-step (rowsAt d c))
   read-on (suc n) c o =
       by-rows n c o (λ r rs e.
       let p = passed o r rs e in
-      read-on n (past r) (p .on) ∙ ap (λ (l : List Row). readRows (drop n l)) (p .rest))
+      read-on n (past r) (p .on) ∙ ap (λ (l : List Row). firstRow (drop n l)) (p .rest))
 
--- what a reader that was opened and moved reads
+-- what a reader that was opened and moved reads is the row
 pub row-is : (v : ℕ) (d : List ℕ) (n : ℕ) → readAt d (placeAfter d (firstSlot d 1) (fault v d) n) (fault v d) ≡ rowAt v d n
 unfolding readAt placeAfter rowAt
 row-is v d n = go (eqb (fault v d) 0) refl
   where
     go : (t : Bool) → eqb (fault v d) 0 ≡ t
-        → cond t (readStep (stepAt d (cond t (skipped n d (firstSlot d 1)) (firstSlot d 1)))) (Refused (fault v d))
-        ≡ cond t (readRows (drop n (rows d))) (Refused (fault v d))
+        → cond t (seenIn (stepAt d (cond t (skipped n d (firstSlot d 1)) (firstSlot d 1)))) none
+        ≡ cond t (firstRow (drop n (rows d))) none
     go true e =
         let f = eqb-true (fault v d) 0 e in
-        read-on n (firstSlot d 1) (begins v d f) ∙ ap (λ (l : List Row). readRows (drop n l)) (from-start v d f)
+        read-on n (firstSlot d 1) (begins v d f) ∙ ap (λ (l : List Row). firstRow (drop n l)) (from-start v d f)
     go false e = refl
 
--- its number is the fault's, and so 0 just where the directory is sound
-pub row-number : (v : ℕ) (d : List ℕ) (n : ℕ) → numberOf (rowAt v d n) ≡ fault v d
-unfolding rowAt
-row-number v d n = go (eqb (fault v d) 0) refl (drop n (rows d))
-  where
-    go : (t : Bool) → eqb (fault v d) 0 ≡ t → (rs : List Row) → numberOf (cond t (readRows rs) (Refused (fault v d))) ≡ fault v d
-    go true e [] = sym (eqb-true (fault v d) 0 e)
-    go true e (r ∷ rs) = sym (eqb-true (fault v d) 0 e)
-    go false e rs = refl
+-- the three answers at a place
+module _ (d : List ℕ) (c : Cursor) (k : ℕ) where
+  pub refused-at : (k ≡ 0 → ⊥) → Answers (Refused k) k (readAt d c k)
+  unfolding readAt
+  refused-at h =
+      let e = ne-eqb k 0 h in
+      record { number-is = refl; values-are = rw e; refused = rw e }
+
+  pub entry-at : {s : Seen} {p : Cursor} → k ≡ 0 → stepAt d c ≡ Entry s p → Answers (read.Entry s) k (readAt d c k)
+  unfolding readAt
+  entry-at h e =
+      let z = eq-eqb k 0 h in
+      record { number-is = sym h; values-are = rw (z, e); refused = rw z }
+
+  pub end-at : k ≡ 0 → stepAt d c ≡ End → Answers read.End k (readAt d c k)
+  unfolding readAt
+  end-at h e =
+      let z = eq-eqb k 0 h in
+      record { number-is = sym h; values-are = rw (z, e); refused = rw z }
+
+-- a number and values allow one answer
+pub answers-same : (r r′ : Read) {n : ℕ} {v : Option Seen} → Answers r n v → Answers r′ n v → r ≡ r′
+answers-same (read.Entry s) (read.Entry s′) a b = cc
+answers-same (read.Entry s) read.End a b = cc
+answers-same (read.Entry s) (Refused m) a b = cc
+answers-same read.End (read.Entry s) a b = cc
+answers-same read.End read.End a b = refl
+answers-same read.End (Refused m) a b = cc
+answers-same (Refused m) (read.Entry s) a b = cc
+answers-same (Refused m) read.End a b = cc
+answers-same (Refused m) (Refused m′) a b = cc

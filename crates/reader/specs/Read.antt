@@ -1,7 +1,9 @@
 -- What the reader promises (document 01: "A reader that walks the entries holds the borrowed directory and its place").
 use Prim.Native.Nat.{ℕ, zero, suc}
-use mathlib.Core.Bool.{cond}
+use mathlib.Core.Path.{_≡_}
+use mathlib.Core.Bool.{Bool, true, false, cond, not}
 use mathlib.Core.List.{List, [], _∷_}
+use mathlib.Core.Option.{Option, none, some}
 use lib.ListN.{drop}
 use lib.Dec.{eqb}
 use denote.Ref.{RefT, now}
@@ -9,31 +11,45 @@ use Rattle.meaning.specs.Words.{Row, rows}
 use Rattle.meaning.specs.Sound.{fault}
 use Rattle.cursor.specs.Cursor.{seenOf, firstSlot, stepAt}
 use Rattle.cursor.specs.declared.Cursor.{Cursor}
+use Rattle.cursor.specs.declared.Seen.{Seen}
 use Rattle.cursor.specs.declared.Step.{Step}
 use Rattle.cursor.specs.declared.Step.the-variants as step
 use Rattle.reader.specs.declared.Reader.{Reader}
 use Rattle.reader.specs.declared.Read.{Read}
 use Rattle.reader.specs.declared.Read.the-variants.{Entry, End, Refused}
 
--- document 01's number of what is read: 0, or that of the fault
+-- document 01's number for each case of what is read: 0, or that of the fault
 abbrev pub numberOf : Read → ℕ
 numberOf (Entry seen) = 0
 numberOf End = 0
 numberOf (Refused n) = n
 
--- what is read of the rows ahead: the first of them, or the end
-abbrev pub readRows : List Row → Read
-readRows [] = End
-readRows (r ∷ rs) = Entry (seenOf r)
+-- and its values: those of the entry. The end and a refusal have none
+abbrev pub valuesOf : Read → Option Seen
+valuesOf (Entry seen) = some seen
+valuesOf End = none
+valuesOf (Refused n) = none
 
--- the same of a step
-abbrev pub readStep : Step → Read
-readStep (step.Entry seen past) = Entry seen
-readStep step.End = End
+-- which of the two it is
+abbrev pub isRefused : Read → Bool
+isRefused (Entry seen) = false
+isRefused End = false
+isRefused (Refused n) = true
 
--- what a reader at a place reads, where k is its number
-unfoldable pub readAt : List ℕ → Cursor → ℕ → Read
-readAt d c k = cond (eqb k 0) (readStep (stepAt d c)) (Refused k)
+-- what is read has this number and these values, and is refused just where the number is not 0. So these two determine it
+pub record Answers (r : Read) (number : ℕ) (values : Option Seen) : Type 0 where
+  pub number-is : numberOf r ≡ number
+  pub values-are : valuesOf r ≡ values
+  pub refused : isRefused r ≡ not (eqb number 0)
+
+-- the entry that a step gives
+abbrev pub seenIn : Step → Option Seen
+seenIn (step.Entry seen past) = some seen
+seenIn step.End = none
+
+-- what stands at a place, for a reader whose number is k: a refused one has nothing to read
+unfoldable pub readAt : List ℕ → Cursor → ℕ → Option Seen
+readAt d c k = cond (eqb k 0) (seenIn (stepAt d c)) none
 
 -- a place after a step, or where it was at the end
 abbrev pub pastStep : Step → Cursor → Cursor
@@ -58,6 +74,11 @@ abbrev pub movedBy : Reader → ℕ → Reader
 movedBy r n =
     record { words = r .words; cursor = placeAfter (now (r .words)) (r .cursor) (r .number) n; number = r .number }
 
--- walking from the start gives exactly the rows, in order, and then the end; an unsound directory gives the fault's number
-unfoldable pub rowAt : ℕ → List ℕ → ℕ → Read
-rowAt v d n = cond (eqb (fault v d) 0) (readRows (drop n (rows d))) (Refused (fault v d))
+-- the first of some rows
+abbrev pub firstRow : List Row → Option Seen
+firstRow [] = none
+firstRow (r ∷ rs) = some (seenOf r)
+
+-- the row that n others precede: walking from the start gives exactly the rows, in order, and then none; an unsound directory has none
+unfoldable pub rowAt : ℕ → List ℕ → ℕ → Option Seen
+rowAt v d n = cond (eqb (fault v d) 0) (firstRow (drop n (rows d))) none

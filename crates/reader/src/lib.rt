@@ -6,7 +6,8 @@ use cursor::Seen;
 use cursor::Step;
 use directory::sound;
 ghost use mathlib.Core.Path.{_≡_};
-ghost use Rattle.reader.specs.Read.{readAt, placeAfter, opened, movedBy, rowAt};
+ghost use Rattle.meaning.specs.Sound.{fault};
+ghost use Rattle.reader.specs.Read.{Answers, readAt, placeAfter, opened, movedBy, rowAt};
 
 // The directory, a place in it (a segment and a slot), and the number of the directory's fault, 0 for none.
 pub struct Reader<'a> {
@@ -24,7 +25,7 @@ pub enum Read {
 
 // What stands at a place. A refused reader has nothing to read, whatever its place.
 fn read_at(words: &[u16], place: Cursor, number: u16) -> Read
-    ensures { λ r. ⌜ r ≡ readAt (now (words .entry)) place number ⌝ }
+    ensures { λ r. ⌜ Answers r number (readAt (now (words .entry)) place number) ⌝ }
 {
     if number != 0 {
         return Read::Refused(number);
@@ -72,7 +73,8 @@ pub fn open<'a>(words: &'a [u16], v: usize) -> Reader<'a>
 
 // What the reader reads next. It stays where it is: `moved` takes it on.
 pub fn next<'a>(reader: Reader<'a>) -> Read
-    ensures { λ r. ⌜ r ≡ readAt (now (reader .entry .words)) (reader .entry .cursor) (reader .entry .number) ⌝ }
+    ensures { λ r. ⌜ Answers r (reader .entry .number)
+        (readAt (now (reader .entry .words)) (reader .entry .cursor) (reader .entry .number)) ⌝ }
 {
     read_at(reader.words, reader.cursor, reader.number)
 }
@@ -90,7 +92,7 @@ pub fn moved<'a>(reader: Reader<'a>, count: usize) -> Reader<'a>
 
 // The entry that so many others precede in chain order, or the end; of an unsound directory the fault's number.
 pub fn row(words: &[u16], v: usize, count: usize) -> Read
-    ensures { λ r. ⌜ r ≡ rowAt v (now (words .entry)) count ⌝ }
+    ensures { λ r. ⌜ Answers r (fault v (now (words .entry))) (rowAt v (now (words .entry)) count) ⌝ }
 {
     next(moved(open(words, v), count))
 }

@@ -6,47 +6,53 @@ use mathlib.Core.Path.{_≡_, refl, sym, ap, _∙_}
 use mathlib.Core.Bool.{Bool, true, false, cond}
 use mathlib.Core.List.{List, [], _∷_, _++_, append-assoc, append-nil}
 use native.Mathlib.Omega.{arith}
-use native.Mathlib.Nat.{suc-mul, add-mul, mul-le-mul-right}
-use lib.ListN.{length, getD, take, drop, set, replicate, length-append, length-take, length-drop, length-set, length-replicate}
+use native.Mathlib.Nat.{suc-mul, add-mul}
+use lib.ListN.{length, getD, take, drop, set, replicate, length-append, length-drop, length-set, length-replicate}
 use lib.Seq.{take-add, take-all, take-take, drop-drop, drop-at, length-take-le, set-append-left, getD-take, getD-drop}
 use lib.Dec.{eqb}
 use borrow.Author.Tests.{eq-eqb, ne-eqb}
+use Rattle.meaning.specs.declared.Name.{Name}
+use Rattle.meaning.specs.Kinds.{emptyStatus, endStatus}
 use Rattle.meaning.specs.Words.{Entry, blocks, chunks}
-use Rattle.meaning.specs.Requests.{entryOf, flat, render}
+use Rattle.meaning.specs.Requests.{entryOf, emptyEntry, flat, render}
 use Rattle.meaning.specs.Enter.{inserted}
 use Rattle.copying.specs.Written.{Written}
 use Rattle.render.specs.Anew.{gapWords, insertedWords, renderedWords}
-use Rattle.copying.proofs.Writes.{none-written, pasted, one-written, both-written, set-written, take-zeros, written-anew}
+use Rattle.copying.proofs.Writes.{one-written, both-written, set-written, take-zeros, written-anew}
 use Rattle.render.proofs.Chunks.{take-chunks, drop-chunks, at-chunks, flat-split, flat-append, flat-chunks}
 
 -- an entry of w words is the first w of a longer one
-pub entry-take : (w s a b c n x d : ℕ) → 7 ≤ w → w ≤ 23 → take w (entryOf 23 s a b c n x d) ≡ entryOf w s a b c n x d
+pub entry-take : (w s : ℕ) (m : Name) (n x d : ℕ) → 7 ≤ w → w ≤ 23 → take w (entryOf 23 s m n x d) ≡ entryOf w s m n x d
 unfolding entryOf
-entry-take w s a b c n x d h k =
+entry-take w s m n x d h k =
     let e : w ≡ suc (suc (suc (suc (suc (suc (suc (w - 7))))))) = omega arith in
-    ap (λ (i : ℕ). take i (entryOf 23 s a b c n x d)) e
-    ∙ ap {B = List ℕ} (λ l. s ∷ a ∷ b ∷ c ∷ n ∷ x ∷ d ∷ l) (take-zeros (w - 7) 16 (omega arith))
+    ap (λ (i : ℕ). take i (entryOf 23 s m n x d)) e
+    ∙ ap {B = List ℕ} (λ l. s ∷ m .first ∷ m .second ∷ m .extension ∷ n ∷ x ∷ d ∷ l) (take-zeros (w - 7) 16 (omega arith))
 
-pub entry-length : (w s a b c n x d : ℕ) → 7 ≤ w → length (entryOf w s a b c n x d) ≡ w
+pub entry-length : (w s : ℕ) (m : Name) (n x d : ℕ) → 7 ≤ w → length (entryOf w s m n x d) ≡ w
 unfolding entryOf
-entry-length w s a b c n x d h = omega (arith, length-replicate {A = ℕ} (w - 7) 0)
+entry-length w s m n x d h = omega (arith, length-replicate {A = ℕ} (w - 7) 0)
+
+-- the name of an empty entry that is made
+abbrev pub blank : Name
+blank = record { first = 0; second = 0; extension = 0 }
 
 -- the gap
 pub gap-none : (w cost : ℕ) → (cost ≡ 2 → ⊥) → gapWords w cost ≡ []
 unfolding gapWords
 gap-none w cost h = rw (ne-eqb cost 2 h)
 
-pub gap-some : (w cost : ℕ) → cost ≡ 2 → gapWords w cost ≡ entryOf w 512 0 0 0 0 0 0
+pub gap-some : (w cost : ℕ) → cost ≡ 2 → gapWords w cost ≡ emptyEntry w 0
 unfolding gapWords
 gap-some w cost h = rw (eq-eqb cost 2 h)
 
 -- as code makes it
-pub gap-array : (w : ℕ) → w ≤ 23 → length (take w (set {A = ℕ} (replicate 23 0) 0 512)) ≡ w
-gap-array w h = length-take-le w (set (replicate 23 0) 0 512) (omega arith)
+pub gap-array : (w : ℕ) → w ≤ 23 → length (take w (set {A = ℕ} (replicate 23 0) 0 emptyStatus)) ≡ w
+gap-array w h = length-take-le w (set (replicate 23 0) 0 emptyStatus) (omega arith)
 
-pub gap-due : (w cost : ℕ) → cost ≡ 2 → 7 ≤ w → w ≤ 23 → take w (set (replicate 23 0) 0 512) ≡ gapWords w cost
+pub gap-due : (w cost : ℕ) → cost ≡ 2 → 7 ≤ w → w ≤ 23 → take w (set (replicate 23 0) 0 emptyStatus) ≡ gapWords w cost
 unfolding entryOf
-gap-due w cost e h k = entry-take w 512 0 0 0 0 0 0 h k ∙ sym (gap-some w cost e)
+gap-due w cost e h k = entry-take w emptyStatus blank 0 0 0 h k ∙ sym (gap-some w cost e)
 
 gap-flat : (x : Bool) (e : Entry) → flat (cond x (e ∷ []) []) [] ≡ cond x e []
 unfolding flat
@@ -54,7 +60,7 @@ gap-flat true e = append-nil e
 gap-flat false e = refl
 
 -- the rest of the first b words
-drop-take : (a b : ℕ) (l : List ℕ) → a ≤ b → a ≤ length l → drop a (take b l) ≡ take (b - a) (drop a l)
+pub drop-take : (a b : ℕ) (l : List ℕ) → a ≤ b → a ≤ length l → drop a (take b l) ≡ take (b - a) (drop a l)
 drop-take a b l h k =
     let e : a + (b - a) ≡ b = omega arith in
     ap (λ (i : ℕ). drop a (take i l)) (sym e)
@@ -92,7 +98,7 @@ module _ (m k w : ℕ) (l : List ℕ) (low : k < m) (wide : 7 ≤ w) (fit : m * 
   unfolding inserted insertedWords gapWords
   inserted-words cost new n =
       let b = below in
-      let gap : Entry = entryOf w 512 0 0 0 0 0 0 in
+      let gap : Entry = emptyEntry w 0 in
       let y : ℕ = getD l (k * w + 4) 0 - blocks new in
       ins-flat (take k (chunks m w l)) (cond (eqb cost 2) (gap ∷ []) []) (drop (suc k) (chunks m w l)) new
       (set (getD (chunks m w l) k []) 4 (blocks (getD (chunks m w l) k []) - blocks new))
@@ -146,18 +152,18 @@ inserted-written {b} {m₁} {m₂} {m₃} {m₄} {q} {y₁} {y₂} {y₃} {z} p 
 pub segment-written : (m : ℕ) {h l o₁ o₂ : List ℕ} {y z : ℕ} → z < m
     → Written (replicate m 0) 0 h o₁ y
     → Written o₁ y l o₂ z
-    → set o₂ z 2048 ≡ take m (h ++ (l ++ 2048 ∷ replicate m 0))
+    → set o₂ z endStatus ≡ take m (h ++ (l ++ endStatus ∷ replicate m 0))
 segment-written m {h} {l} {o₁} {o₂} {y} {z} k u v =
     let zs : List ℕ = replicate m 0 in
     let t = both-written zs h o₁ l o₂ 0 y z (omega arith) u v in
     let n : z < length o₂ = omega (arith, t .long, length-replicate {A = ℕ} m 0) in
-    let w = both-written zs (h ++ l) o₂ (2048 ∷ []) (set o₂ z 2048) 0 z (z + 1) (omega arith) t (one-written o₂ z 2048 n) in
-    written-anew m (h ++ l ++ (2048 ∷ [])) (set o₂ z 2048) (z + 1) (omega arith) w
+    let w = both-written zs (h ++ l) o₂ (endStatus ∷ []) (set o₂ z endStatus) 0 z (z + 1) (omega arith) t (one-written o₂ z endStatus n) in
+    written-anew m (h ++ l ++ (endStatus ∷ [])) (set o₂ z endStatus) (z + 1) (omega arith) w
     ∙ ap (λ (r : List ℕ). take m r) (simp append-assoc)
 
 pub rendered : (header : List ℕ) (es : List Entry) → render header es ≡ renderedWords header (flat es [])
 unfolding render renderedWords
-rendered header es = by-words (2048 ∷ replicate 512 0)
+rendered header es = by-words (endStatus ∷ replicate 512 0)
   where
     by-words : (z : List ℕ) → take 512 (header ++ flat es z) ≡ take 512 (header ++ (flat es [] ++ z))
     by-words z = rw (flat-split es z)

@@ -1,7 +1,7 @@
 -- Slots and entries as words. The entries of a segment are its first slots, as many as stand before the marker; the first of some
 -- slots are slots, and so are the rest of them, from the place where these begin; and the words of slots are those that they were
 -- taken from. Each by induction on the slots. Assumes nothing.
-use Prim.Native.Nat.{ℕ, zero, suc, _+_, _*_, _-_, _/_, _≤_, _<_}
+use Prim.Native.Nat.{ℕ, zero, suc, _+_, _*_, _-_, _≤_, _<_}
 use mathlib.Core.Path.{_≡_, refl, sym, ap, _∙_}
 use mathlib.Core.Bool.{Bool, true, false, cond}
 use mathlib.Core.List.{List, [], _∷_, _++_, append-assoc}
@@ -66,6 +66,12 @@ at-chunks zero k w l h = absurd (not-suc-le-zero h)
 at-chunks (suc m) zero w l h = rw (zero-mul w)
 at-chunks (suc m) (suc k) w l h =
     at-chunks m k w (drop w l) (le-of-suc-le-suc h) ∙ rw (drop-drop (k * w) w l, more-words k w)
+
+-- the entry after k others
+pub entry-at : (n w : ℕ) (l : List ℕ) (k : ℕ) → k < length (upto (chunks n w l))
+    → getD (upto (chunks n w l)) k [] ≡ take w (drop (k * w) l)
+entry-at n w l k h =
+    ap (λ (es : List Entry). getD es k []) (entries-slots n w l) ∙ at-chunks (length (upto (chunks n w l))) k w l h
 
 -- words of entries
 pub flat-split : (es : List Entry) (t : List ℕ) → flat es t ≡ flat es [] ++ t

@@ -1,68 +1,30 @@
--- The loops over a segment's entries. The count keeps one equation: the entries so far and those ahead are all entries; and so does
--- the sum of lengths. A split keeps half of the entries, or one more: the last of the first slots tells which. Assumes nothing.
+-- The first entries of a segment. The loop that sums their lengths keeps one equation: the sum so far and that of the slots ahead are
+-- the sum of all. A split keeps half of the entries, or one more: the last of the first slots tells which. Assumes nothing.
 use Prim.Native.Nat.{ℕ, zero, suc, _+_, _*_, _-_, _/_, _≤_, _<_}
-use mathlib.Core.Path.{_≡_, refl, sym, ap, _∙_}
+use mathlib.Core.Path.{_≡_, refl, sym, _∙_}
 use mathlib.Core.Bool.{Bool, true, false, cond}
-use mathlib.Core.List.{List, [], _∷_}
+use mathlib.Core.List.{List}
 use native.Mathlib.Omega.{arith}
-use native.Mathlib.Nat.{zero-mul, suc-mul, add-comm, mul-le-mul-right, div-mul-le-self}
+use native.Mathlib.Nat.{zero-mul, suc-mul, add-comm, mul-le-mul-right}
 use lib.ListN.{length, getD, take, drop}
 use lib.Seq.{drop-drop, getD-take, getD-drop}
-use Rattle.meaning.specs.Kinds.{kindOf, isEnd, isTentative}
-use Rattle.meaning.specs.Words.{slotCount, chunks, slots, upto, total}
+use Rattle.meaning.specs.Kinds.{kindOf, isTentative}
+use Rattle.meaning.specs.Words.{chunks, slots, upto, total}
 use Rattle.meaning.specs.Enter.{endsTentative, kept}
-use Rattle.segment.proofs.Slots.{word, word0, mul-less, chunks-step}
-use Rattle.render.specs.Halves.{Counted, KeptOf}
+use Rattle.segment.proofs.Slots.{word, mul-less, chunks-step}
+use Rattle.segment.specs.Count.{Counted}
+use Rattle.render.specs.Halves.{KeptOf}
 use Rattle.render.proofs.Chunks.{first-slots}
 
--- slots that a segment has lie in it
-pub slots-room : (m w : ℕ) → m ≤ slotCount w → 5 + m * w ≤ 512
-slots-room m w h = omega (arith, mul-le-mul-right w h, div-mul-le-self 507 w)
-
 module _ (g : List ℕ) (w left p : ℕ) (h : 0 < left) (wide : 7 ≤ w) where
-  upto-step : upto (chunks left w (drop p g))
-      ≡ cond (isEnd (kindOf (getD g p 0))) [] (take w (drop p g) ∷ upto (chunks (left - 1) w (drop (p + w) g)))
-  unfolding upto
-  upto-step = rw (chunks-step left w (drop p g) h, drop-drop w p g, word0 g p w (omega arith))
-
-  pub count-end : isEnd (kindOf (getD g p 0)) ≡ true → length (upto (chunks left w (drop p g))) ≡ 0
-  count-end e = rw (upto-step, e)
-
-  pub count-more : isEnd (kindOf (getD g p 0)) ≡ false
-      → length (upto (chunks left w (drop p g))) ≡ 1 + length (upto (chunks (left - 1) w (drop (p + w) g)))
-  count-more e = rw (upto-step, e) (omega arith)
-
   pub total-more : total (chunks left w (drop p g)) ≡ getD g (p + 4) 0 + total (chunks (left - 1) w (drop (p + w) g))
   unfolding total
   total-more = rw (chunks-step left w (drop p g) h, drop-drop w p g, word g p w 4 (omega arith))
-
-pub count-none : (left w : ℕ) (l : List ℕ) → left ≤ 0 → length (upto (chunks left w l)) ≡ 0
-unfolding chunks upto
-count-none zero w l h = refl
-count-none (suc n) w l h = absurd (omega arith)
 
 pub total-none : (left w : ℕ) (l : List ℕ) → left ≤ 0 → total (chunks left w l) ≡ 0
 unfolding chunks total
 total-none zero w l h = refl
 total-none (suc n) w l h = absurd (omega arith)
-
--- the count's invariant: count entries were met, and left slots are ahead, from word p on
-pub record Counting (g : List ℕ) (w left p count : ℕ) : Type 0 where
-  pub room : p + left * w ≤ 512
-  pub few : count + left ≤ slotCount w
-  pub same : count + length (upto (chunks left w (drop p g))) ≡ length (upto (slots w g))
-
-pub counting : (g : List ℕ) (w : ℕ) → Counting g w (slotCount w) 5 0
-unfolding slots
-counting g w = record { room = omega (arith, div-mul-le-self 507 w); few = omega arith; same = omega arith }
-
-pub counted : {g : List ℕ} {w left p count : ℕ} → Counting g w left p count → length (upto (chunks left w (drop p g))) ≡ 0
-    → Counted count w g
-counted {w = w} {count = count} i e = record {
-  is = omega (arith, i .same);
-  few = omega (arith, i .few);
-  room = slots-room count w (omega (arith, i .few));
-}
 
 -- the sum's invariant: the lengths of the first of count slots give sum, and left slots are ahead, from word p on
 pub record Summing (g : List ℕ) (w count left p sum : ℕ) : Type 0 where

@@ -2,3 +2,4 @@ pub mod Chunks
 pub mod Anew
 pub mod Counting
 pub mod Parts
+pub mod InPlace

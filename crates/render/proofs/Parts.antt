@@ -2,21 +2,21 @@
 -- after k of them: that is all that an insertion needs, whether into a whole segment or into a half. Half of a segment always has
 -- room for the new entry and a gap, since a segment has at least 22 slots. Assumes nothing.
 use Prim.Native.Nat.{ℕ, _+_, _*_, _-_, _/_, _≤_, _<_}
-use mathlib.Core.Path.{_≡_, refl, sym, ap, _∙_}
+use mathlib.Core.Path.{_≡_, refl, sym, _∙_}
 use mathlib.Core.Bool.{Bool, true, false, cond}
-use mathlib.Core.List.{List, [], _∷_}
-use native.Mathlib.Decide.{ℕ-discrete}
+use mathlib.Core.List.{List, []}
 use native.Mathlib.Omega.{arith}
 use native.Mathlib.Nat.{suc-mul, add-mul, mul-le-mul-right, div-mul-le-self, le-div-iff-mul-le}
 use lib.ListN.{length, getD, take, drop}
 use lib.Seq.{length-take-le, getD-take, getD-drop}
 use lib.Dec.{eqb}
+use Rattle.meaning.specs.Kinds.{emptyStatus}
 use Rattle.meaning.specs.Words.{Entry, blocks, chunks}
-use Rattle.meaning.specs.Requests.{entryOf, render}
+use Rattle.meaning.specs.Requests.{emptyEntry, render}
 use Rattle.meaning.specs.Enter.{inserted}
 use Rattle.render.specs.Anew.{gapWords, insertedWords, renderedWords, Inserting}
 use Rattle.render.proofs.Chunks.{at-chunks, flat-chunks}
-use Rattle.render.proofs.Anew.{entry-length, gap-none, inserted-words, inserted-length, rendered}
+use Rattle.render.proofs.Anew.{entry-length, blank, inserted-words, inserted-length, rendered}
 
 -- m slots of the words l, with the area after k of them; code has the area's word p and the words' count q
 pub record Part (l : List ℕ) (new : Entry) (m k p q : ℕ) : Type 0 where
@@ -74,21 +74,13 @@ gap-short : (w cost : ℕ) → 7 ≤ w → length (gapWords w cost) ≤ w
 unfolding gapWords
 gap-short w cost h = by-cost (eqb cost 2)
   where
-    by-cost : (x : Bool) → length (cond x (entryOf w 512 0 0 0 0 0 0) []) ≤ w
-    by-cost true = omega (arith, entry-length w 512 0 0 0 0 0 0 h)
+    by-cost : (x : Bool) → length (cond x (emptyEntry w 0) []) ≤ w
+    by-cost true = omega (arith, entry-length w emptyStatus blank 0 0 0 h)
     by-cost false = omega arith
 
 -- n slots more than m
 more : (m n w : ℕ) → m + n ≤ 507 / w → m * w + n * w ≤ 507
 more m n w h = omega (arith, add-mul m n w, mul-le-mul-right w h, div-mul-le-self 507 w)
-
-pub whole-room : (m w cost : ℕ) → 7 ≤ w → 1 ≤ cost → m + cost < 507 / w
-    → 5 + m * w + w + length (gapWords w cost) < 512
-whole-room m w cost wide h k = by-cost (ℕ-discrete cost 2)
-  where
-    by-cost : Dec (cost ≡ 2) → 5 + m * w + w + length (gapWords w cost) < 512
-    by-cost (yes e) = omega (arith, more m 3 w (omega arith), gap-short w cost wide)
-    by-cost (no e) = omega (arith, more m 2 w (omega arith), ap length (gap-none w cost e))
 
 pub half-room : (m n w cost : ℕ) → 7 ≤ w → w ≤ 23 → m ≤ 507 / w → n ≤ m / 2 + 1
     → 5 + n * w + w + length (gapWords w cost) < 512

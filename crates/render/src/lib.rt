@@ -3,18 +3,22 @@
 // the place in the segment where a slot begins.
 pub mod measure;
 
+use copying::clear_from;
+use copying::move_up;
 use copying::put_words;
+use meaning::EMPTY;
+use meaning::END;
+use meaning::Name;
+use meaning::TENTATIVE;
 ghost use mathlib.Core.Path.{_≡_};
 ghost use Prim.Native.Nat.{_+_, _≤_, _<_};
 ghost use lib.ListN.{length};
 ghost use Rattle.copying.specs.Written.{Written};
-ghost use Rattle.render.specs.Anew.{newEntry, gapWords, insertedWords, renderedWords, Inserting};
+ghost use Rattle.render.specs.Anew.{newEntry, gapWords, insertedWords, renderedWords, Inserting, insertedInto, Insertable};
 
 // The words of the new entry: name, length in blocks, channel word and date.
 pub struct Tentative {
-    pub first: u16,
-    pub second: u16,
-    pub extension: u16,
+    pub name: Name,
     pub length: u16,
     pub channel: u16,
     pub date: u16,
@@ -25,10 +29,10 @@ pub fn entry_words(new: Tentative) -> [u16; 23]
     ensures { λ r. ⌜ r ≡ newEntry 23 new ⌝ }
 {
     let mut words = [0u16; 23];
-    words[0] = 256;
-    words[1] = new.first;
-    words[2] = new.second;
-    words[3] = new.extension;
+    words[0] = TENTATIVE;
+    words[1] = new.name.first;
+    words[2] = new.name.second;
+    words[3] = new.name.extension;
     words[4] = new.length;
     words[5] = new.channel;
     words[6] = new.date;
@@ -42,7 +46,7 @@ fn put_gap(out: &mut [u16], place: usize, width: usize, cost: usize) -> usize
 {
     if cost == 2 {
         let mut gap = [0u16; 23];
-        gap[0] = 512;
+        gap[0] = EMPTY;
         return put_words(&gap[..width], out, place);
     }
     place
@@ -58,8 +62,10 @@ fn put_inserted(
     out: &mut [u16],
     place: usize,
 ) -> usize
-    requires { ⌜ Inserting (now words) word cost (now new) × (place + length (insertedWords word cost (now new) (now words)) ≤ length (now out)) ⌝ }
-    ensures { λ r. ⌜ Written (now (out .entry)) place (insertedWords word cost (now (new .entry)) (now (words .entry))) (now (out .exit)) r ⌝ }
+    requires { ⌜ Inserting (now words) word cost (now new)
+        × (place + length (insertedWords word cost (now new) (now words)) ≤ length (now out)) ⌝ }
+    ensures { λ r. ⌜ Written (now (out .entry)) place (insertedWords word cost (now (new .entry)) (now (words .entry)))
+        (now (out .exit)) r ⌝ }
 {
     let gap = put_words(&words[..word], out, place);
     let start = put_gap(out, gap, new.len(), cost);
@@ -77,7 +83,7 @@ pub fn plain_segment(header: &[u16], words: &[u16]) -> [u16; 512]
     let mut out = [0u16; 512];
     let start = put_words(header, &mut out, 0);
     let next = put_words(words, &mut out, start);
-    out[next] = 2048;
+    out[next] = END;
     out
 }
 
@@ -89,12 +95,31 @@ pub fn inserted_segment(
     cost: usize,
     new: &[u16],
 ) -> [u16; 512]
-    requires { ⌜ (length (now header) ≡ 5) × Inserting (now words) word cost (now new) × (5 + length (insertedWords word cost (now new) (now words)) < 512) ⌝ }
+    requires { ⌜ (length (now header) ≡ 5) × Inserting (now words) word cost (now new)
+        × (5 + length (insertedWords word cost (now new) (now words)) < 512) ⌝ }
     ensures { λ r. ⌜ r ≡ renderedWords (now (header .entry)) (insertedWords word cost (now (new .entry)) (now (words .entry))) ⌝ }
 {
     let mut out = [0u16; 512];
     let start = put_words(header, &mut out, 0);
     let next = put_inserted(words, word, cost, new, &mut out, start);
-    out[next] = 2048;
+    out[next] = END;
     out
+}
+
+// The new entry put into a segment, in place, before the area that begins at this word; the segment's entries end at `stop`. From the
+// area on they move up by the slots that it costs, and what follows the marker becomes 0.
+pub fn insert_words(segment: &mut [u16], stop: usize, word: usize, cost: usize, new: &[u16])
+    requires { ⌜ Insertable (now segment) stop word cost (now new) ⌝ }
+    ensures { λ _. ⌜ now (segment .exit) ≡ insertedInto (now (segment .entry)) stop word cost (now (new .entry)) ⌝ }
+{
+    let width = new.len();
+    let grown = cost * width;
+    let end = stop + grown;
+    let size = segment[word + 4];
+    move_up(segment, word, stop, grown);
+    let start = put_gap(segment, word, width, cost);
+    let area = put_words(new, segment, start);
+    segment[area + 4] = size - new[4];
+    segment[end] = END;
+    clear_from(segment, end + 1);
 }

@@ -1,29 +1,11 @@
-// The entries of a segment: how many, how many a split keeps, and the blocks of the first of them.
+// The entries of a segment: how many a split keeps, and the blocks of the first of them.
 use segment::kinds;
 ghost use mathlib.Core.Path.{_≡_};
 ghost use Prim.Native.Nat.{_+_, _*_, _≤_};
 ghost use lib.ListN.{length, drop};
 ghost use Rattle.meaning.specs.Words.{slots, upto, chunks, total};
-ghost use Rattle.render.specs.Halves.{Counted, KeptOf};
-
-// How many entries stand before the marker.
-pub fn count_entries(segment: &[u16], width: usize) -> usize
-    requires { ⌜ (length (now segment) ≡ 512) × (7 ≤ width) × (width ≤ 23) ⌝ }
-    ensures { λ r. ⌜ Counted r width (now (segment .entry)) ⌝ }
-{
-    let mut count: usize = 0;
-    let mut left: usize = 507 / width;
-    let mut word: usize = 5;
-    while 0 < left {
-        if kinds::is_marker(segment[word]) {
-            return count;
-        }
-        count += 1;
-        word += width;
-        left -= 1;
-    }
-    count
-}
+ghost use Rattle.segment.specs.Count.{Counted};
+ghost use Rattle.render.specs.Halves.{KeptOf};
 
 // How many entries a split keeps: half of them, and one more if the last of these is tentative, so that its area stays with it.
 pub fn count_kept(segment: &[u16], width: usize, count: usize) -> usize

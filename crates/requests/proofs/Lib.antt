@@ -1,3 +1,1 @@
-pub mod Enters
-pub mod Serving
 pub mod Determined

@@ -3,7 +3,7 @@
 -- Assumes nothing.
 use Prim.Native.Nat.{ℕ, zero, suc, _+_, _*_, _-_, _≤_, _<_}
 use mathlib.Core.Path.{_≡_, refl}
-use mathlib.Core.Bool.{Bool, true, false, cond}
+use mathlib.Core.Bool.{Bool, true, false, cond, true≢false}
 use mathlib.Core.List.{List, [], _∷_}
 use native.Mathlib.Nat.{add-zero, zero-add, div-mul-le-self, div-le-self}
 use native.Mathlib.Omega.{arith}
@@ -11,12 +11,12 @@ use lib.ListN.{length, getD, take, drop}
 use lib.Seq.{drop-drop}
 use Rattle.meaning.specs.declared.Kind.{Kind}
 use Rattle.meaning.specs.declared.Kind.the-variants.{Tentative, Empty, Permanent, End, Unknown}
-use Rattle.meaning.specs.Kinds.{kindOf, isTentative, isEnd}
-use Rattle.meaning.specs.Words.{Entry, blocks, kind, slotCount, chunks, slots, upto, total}
+use Rattle.meaning.specs.Kinds.{kindOf, isTentative, isEmpty, isPermanent, isEnd}
+use Rattle.meaning.specs.Words.{Entry, blocks, kind, nameOf, slotCount, chunks, slots, upto, total}
 use Rattle.meaning.specs.Sound.{longName}
 use Rattle.walks.specs.Scan.{badBy, longNamed, scanBad}
 use Rattle.segment.specs.Scan.{scanOf, Bounded}
-use Rattle.segment.specs.Steps.{stepBy, stepOf, scanFrom}
+use Rattle.segment.specs.Steps.{stepBy, slotStep, scanFrom}
 use Rattle.segment.specs.declared.scan.Step.{Step}
 use Rattle.segment.specs.declared.scan.Step.the-variants.{Bad, Marker, Next}
 use Rattle.segment.specs.declared.scan.Scan.{Scan}
@@ -25,15 +25,12 @@ use Rattle.segment.proofs.Slots.{word, word0, chunks-step}
 
 -- what the slot at p says, by the words that code reads
 pub step-words : (g : List ℕ) (p w : ℕ) (owed : Bool) → 7 ≤ w
-    → stepOf owed (take w (drop p g))
-    ≡ stepBy (kindOf (getD g p 0)) owed (longName (getD g (p + 1) 0) (getD g (p + 2) 0) (getD g (p + 3) 0)) (getD g (p + 4) 0)
-unfolding stepOf
+    → slotStep owed (take w (drop p g))
+    ≡ stepBy (kindOf (getD g p 0)) owed (longName (nameOf (take w (drop p g)))) (getD g (p + 4) 0)
+unfolding slotStep
 step-words g p w owed h =
     rw (
       word0 g p w (omega arith),
-      word g p w 1 (omega arith),
-      word g p w 2 (omega arith),
-      word g p w 3 (omega arith),
       word g p w 4 (omega arith),
     )
 
@@ -68,13 +65,13 @@ by-kind Tentative false true e es k t = refl
 by-kind Tentative false false e es k t = regroup (scanBad true es) k t (blocks e) (length (upto es)) (total (upto es))
 by-kind Unknown p b e es k t = refl
 
-scan-step : (p : Bool) (e : Entry) (es : List Entry) (k t : ℕ) → scanFrom p (e ∷ es) k t ≡ after (stepOf p e) es k t
-unfolding scanFrom stepOf scanBad upto
+scan-step : (p : Bool) (e : Entry) (es : List Entry) (k t : ℕ) → scanFrom p (e ∷ es) k t ≡ after (slotStep p e) es k t
+unfolding scanFrom slotStep scanBad upto
 scan-step p e es k t = by-kind (kind e) p (longNamed e) e es k t
 
 -- one turn of the loop, where s is what the slot at p says
 pub turn : (g : List ℕ) (p w left : ℕ) (owed : Bool) (k t : ℕ) (s : Step) → 0 < left
-    → s ≡ stepOf owed (take w (drop p g))
+    → s ≡ slotStep owed (take w (drop p g))
     → scanFrom owed (chunks left w (drop p g)) k t ≡ after s (chunks (left - 1) w (drop (p + w) g)) k t
 turn g p w left owed k t s h e =
     rw (
@@ -118,3 +115,11 @@ bounded w left count sum h few small = let d = div-le-self 507 w in (omega arith
 -- for callers: what the bounds are where the scan has answered a sum
 pub sum-bounded : (r : Scan) (w count sum : ℕ) → r ≡ Sum count sum → Bounded r w → (count < slotCount w) × (sum ≤ 507 * 65535)
 sum-bounded r w count sum e h = rw e at h
+
+-- where an empty entry is due, a slot that is no entry is bad
+pub due-bad : (k : Kind) (b : Bool) (n : ℕ) → isPermanent k ≡ false → isEmpty k ≡ false → isTentative k ≡ false → Bad ≡ stepBy k true b n
+due-bad Tentative b n p e t = absurd (true≢false t)
+due-bad Empty b n p e t = absurd (true≢false e)
+due-bad Permanent b n p e t = absurd (true≢false p)
+due-bad End b n p e t = refl
+due-bad Unknown b n p e t = refl

@@ -11,25 +11,24 @@ use native.Mathlib.Omega.{arith}
 use lib.ListN.{getD, take, drop}
 use lib.Seq.{drop-drop}
 use Rattle.meaning.specs.Kinds.{kindOf, isEnd}
-use Rattle.meaning.specs.Words.{Entry, Row, blocks, kind, named, slotCount, chunks, slots, upto, rowsIn}
-use Rattle.meaning.specs.Answers.{find, permanentNamed, tentativeOn}
-use Rattle.segment.specs.Finder.{keyed, foundOf, Inside}
+use Rattle.meaning.specs.declared.Key.{Key}
+use Rattle.meaning.specs.declared.Key.the-variants.{File, Open}
+use Rattle.meaning.specs.Words.{Entry, Row, blocks, kind, nameOf, slotCount, chunks, slots, upto, rowsIn}
+use Rattle.meaning.specs.Keys.{holds}
+use Rattle.meaning.specs.Answers.{find}
+use Rattle.walks.proofs.Keyed.{holds-file, holds-open}
+use Rattle.segment.specs.Finder.{foundOf, Inside}
 use Rattle.segment.specs.Steps.{keyedBy}
-use Rattle.segment.specs.declared.finder.Key.{Key}
-use Rattle.segment.specs.declared.finder.Key.the-variants.{File, Open}
 use Rattle.segment.specs.declared.finder.Place.{Place}
 use Rattle.segment.specs.declared.finder.Found.{Found}
 use Rattle.segment.specs.declared.finder.Found.the-variants.{At}
 use Rattle.segment.proofs.Slots.{word, word0, chunks-step}
 
--- whether the slot at p is looked for, by the words that code reads
+-- whether the slot at p has a key, by the words that code reads
 pub keyed-words : (key : Key) (g : List ℕ) (p w : ℕ) → 7 ≤ w
-    → keyed key (take w (drop p g))
-    ≡ keyedBy key (kindOf (getD g p 0)) (getD g (p + 1) 0) (getD g (p + 2) 0) (getD g (p + 3) 0) (getD g (p + 5) 0)
-unfolding permanentNamed tentativeOn named
-keyed-words (File a b c) g p w h =
-    rw (word0 g p w (omega arith), word g p w 1 (omega arith), word g p w 2 (omega arith), word g p w 3 (omega arith))
-keyed-words (Open x) g p w h = rw (word0 g p w (omega arith), word g p w 5 (omega arith))
+    → holds key (take w (drop p g)) ≡ keyedBy key (kindOf (getD g p 0)) (nameOf (take w (drop p g))) (getD g (p + 5) 0)
+keyed-words (File n) g p w h = holds-file n (take w (drop p g)) ∙ rw (word0 g p w (omega arith))
+keyed-words (Open x) g p w h = holds-open x (take w (drop p g)) ∙ rw (word0 g p w (omega arith), word g p w 5 (omega arith))
 
 -- the row of the slot at word p of a segment's words g: slot k of segment s, at word a of the directory, with first block b
 abbrev pub rowAt : ℕ → ℕ → List ℕ → ℕ → ℕ → ℕ → ℕ → Row
@@ -98,8 +97,8 @@ pub record Searching (g : List ℕ) (w s base first : ℕ) (key : Key) (left p k
   pub place : a ≡ base + p
   pub small : b ≤ first + 65535 * k
   pub same :
-      foundOf (searching (keyed key) w s g left p k a b)
-      ≡ foundOf (find (keyed key) (rowsIn w s 1 (base + 5) first (upto (slots w g))))
+      foundOf (searching (holds key) w s g left p k a b)
+      ≡ foundOf (find (holds key) (rowsIn w s 1 (base + 5) first (upto (slots w g))))
 
 pub starts : (g : List ℕ) (w s base first : ℕ) (key : Key)
     → Searching g w s base first key (slotCount w) 5 1 (base + 5) first

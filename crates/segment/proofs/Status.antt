@@ -8,21 +8,21 @@ use lib.Dec.{eqb}
 use borrow.Author.Tests.{ne-eqb, eqb-true, eqb-false}
 use Rattle.meaning.specs.declared.Kind.{Kind}
 use Rattle.meaning.specs.declared.Kind.the-variants.{Tentative, Empty, Permanent, End, Unknown}
-use Rattle.meaning.specs.Kinds.{kindOf, isTentative, isEmpty, isPermanent, isEnd}
+use Rattle.meaning.specs.Kinds.{tentativeStatus, emptyStatus, permanentStatus, endStatus, kindOf, isTentative, isEmpty, isPermanent, isEnd}
 
-pub tentative-is : (x : ℕ) → x ≡ 256 → isTentative (kindOf x) ≡ true
+pub tentative-is : (x : ℕ) → x ≡ tentativeStatus → isTentative (kindOf x) ≡ true
 unfolding kindOf
 tentative-is x e = rw e
 
-pub empty-is : (x : ℕ) → x ≡ 512 → isEmpty (kindOf x) ≡ true
+pub empty-is : (x : ℕ) → x ≡ emptyStatus → isEmpty (kindOf x) ≡ true
 unfolding kindOf
 empty-is x e = rw e
 
-pub permanent-is : (x : ℕ) → x ≡ 1024 → isPermanent (kindOf x) ≡ true
+pub permanent-is : (x : ℕ) → x ≡ permanentStatus → isPermanent (kindOf x) ≡ true
 unfolding kindOf
 permanent-is x e = rw e
 
-pub end-is : (x : ℕ) → x ≡ 2048 → isEnd (kindOf x) ≡ true
+pub end-is : (x : ℕ) → x ≡ endStatus → isEnd (kindOf x) ≡ true
 unfolding kindOf
 end-is x e = rw e
 
@@ -51,21 +51,21 @@ other-end false true c = refl
 other-end false false true = refl
 other-end false false false = refl
 
-pub tentative-not : (x : ℕ) → (x ≡ 256 → ⊥) → isTentative (kindOf x) ≡ false
+pub tentative-not : (x : ℕ) → (x ≡ tentativeStatus → ⊥) → isTentative (kindOf x) ≡ false
 unfolding kindOf
-tentative-not x h = rw (ne-eqb x 256 h, other-tentative)
+tentative-not x h = rw (ne-eqb x tentativeStatus h, other-tentative)
 
-pub empty-not : (x : ℕ) → (x ≡ 512 → ⊥) → isEmpty (kindOf x) ≡ false
+pub empty-not : (x : ℕ) → (x ≡ emptyStatus → ⊥) → isEmpty (kindOf x) ≡ false
 unfolding kindOf
-empty-not x h = rw (ne-eqb x 512 h, other-empty)
+empty-not x h = rw (ne-eqb x emptyStatus h, other-empty)
 
-pub permanent-not : (x : ℕ) → (x ≡ 1024 → ⊥) → isPermanent (kindOf x) ≡ false
+pub permanent-not : (x : ℕ) → (x ≡ permanentStatus → ⊥) → isPermanent (kindOf x) ≡ false
 unfolding kindOf
-permanent-not x h = rw (ne-eqb x 1024 h, other-permanent)
+permanent-not x h = rw (ne-eqb x permanentStatus h, other-permanent)
 
-pub end-not : (x : ℕ) → (x ≡ 2048 → ⊥) → isEnd (kindOf x) ≡ false
+pub end-not : (x : ℕ) → (x ≡ endStatus → ⊥) → isEnd (kindOf x) ≡ false
 unfolding kindOf
-end-not x h = rw (ne-eqb x 2048 h, other-end)
+end-not x h = rw (ne-eqb x endStatus h, other-end)
 
 -- a test of the kind that a number m decides
 module _ (f : Kind → Bool) (m : ℕ) (is : (x : ℕ) → x ≡ m → f (kindOf x) ≡ true) where
@@ -76,14 +76,14 @@ module _ (f : Kind → Bool) (m : ℕ) (is : (x : ℕ) → x ≡ m → f (kindOf
       go true e = is x (eqb-true x m e)
       go false e = isnt x (eqb-false x m e)
 
-pub tentative-eqb : (x : ℕ) → isTentative (kindOf x) ≡ eqb x 256
-tentative-eqb = by-number isTentative 256 tentative-is tentative-not
+pub tentative-eqb : (x : ℕ) → isTentative (kindOf x) ≡ eqb x tentativeStatus
+tentative-eqb = by-number isTentative tentativeStatus tentative-is tentative-not
 
-pub empty-eqb : (x : ℕ) → isEmpty (kindOf x) ≡ eqb x 512
-empty-eqb = by-number isEmpty 512 empty-is empty-not
+pub empty-eqb : (x : ℕ) → isEmpty (kindOf x) ≡ eqb x emptyStatus
+empty-eqb = by-number isEmpty emptyStatus empty-is empty-not
 
-pub permanent-eqb : (x : ℕ) → isPermanent (kindOf x) ≡ eqb x 1024
-permanent-eqb = by-number isPermanent 1024 permanent-is permanent-not
+pub permanent-eqb : (x : ℕ) → isPermanent (kindOf x) ≡ eqb x permanentStatus
+permanent-eqb = by-number isPermanent permanentStatus permanent-is permanent-not
 
-pub end-eqb : (x : ℕ) → isEnd (kindOf x) ≡ eqb x 2048
-end-eqb = by-number isEnd 2048 end-is end-not
+pub end-eqb : (x : ℕ) → isEnd (kindOf x) ≡ eqb x endStatus
+end-eqb = by-number isEnd endStatus end-is end-not

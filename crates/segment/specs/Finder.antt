@@ -1,21 +1,15 @@
 -- What the finder of a segment promises: the first row that is looked for, as a place.
 use Prim.Native.Nat.{ℕ, _+_, _≤_}
 use mathlib.Core.Path.{_≡_}
-use mathlib.Core.Bool.{Bool}
 use mathlib.Core.List.{List}
 use mathlib.Core.Option.{Option, none, some}
-use Rattle.meaning.specs.Words.{Entry, Row, blocks, dateOf, slots, upto, rowsIn}
-use Rattle.meaning.specs.Answers.{find, permanentNamed, tentativeOn}
-use Rattle.segment.specs.declared.finder.Key.{Key}
-use Rattle.segment.specs.declared.finder.Key.the-variants.{File, Open}
+use Rattle.meaning.specs.Words.{Row, blocks, dateOf, slots, upto, rowsIn}
+use Rattle.meaning.specs.declared.Key.{Key}
+use Rattle.meaning.specs.Keys.{holds}
+use Rattle.meaning.specs.Answers.{find}
 use Rattle.segment.specs.declared.finder.Place.{Place}
 use Rattle.segment.specs.declared.finder.Found.{Found}
 use Rattle.segment.specs.declared.finder.Found.the-variants.{At, Nothing}
-
--- what is looked for, as a test on an entry
-abbrev pub keyed : Key → Entry → Bool
-keyed (File a b c) e = permanentNamed a b c e
-keyed (Open x) e = tentativeOn x e
 
 -- a row's place, with the length and date of its entry
 abbrev pub placeOf : Row → Place
@@ -35,5 +29,5 @@ Inside Nothing w n = Unit {0}
 -- the answer r for segment s, with the words g, slots of w words, its first word at base and its first data block b: the first
 -- of its rows that is looked for, in a slot that the segment holds
 pub record FoundIn (r : Found) (g : List ℕ) (w s base b : ℕ) (key : Key) : Type 0 where
-  pub is : r ≡ foundOf (find (keyed key) (rowsIn w s 1 (base + 5) b (upto (slots w g))))
+  pub is : r ≡ foundOf (find (holds key) (rowsIn w s 1 (base + 5) b (upto (slots w g))))
   pub inside : Inside r w (base + 512)

@@ -1,3 +1,4 @@
 pub mod Scan
 pub mod Finder
 pub mod Steps
+pub mod Count

@@ -1,17 +1,16 @@
 // The first entry of a segment that is looked for, with its place in the directory.
 use crate::kinds;
+use crate::naming::name_at;
+use crate::naming::same_name;
+use meaning::Key;
+use meaning::Name;
 ghost use mathlib.Core.Path.{_≡_};
 ghost use Prim.Native.Nat.{_+_, _≤_};
 ghost use lib.ListN.{length, take, drop};
 ghost use Rattle.meaning.specs.Kinds.{kindOf};
-ghost use Rattle.segment.specs.Finder.{keyed, FoundIn};
+ghost use Rattle.meaning.specs.Keys.{holds};
+ghost use Rattle.segment.specs.Finder.{FoundIn};
 ghost use Rattle.segment.specs.Steps.{keyedBy};
-
-// What is looked for: the permanent file of a name, or the tentative entry on a channel word. One finder serves both.
-pub enum Key {
-    File(u16, u16, u16),
-    Open(u16),
-}
 
 // Where an entry stands: its segment and slot, both counted from 1, the place of its first word in the directory, and its first
 // block; with the length and date that a request answers.
@@ -30,53 +29,34 @@ pub enum Found {
     Nothing,
 }
 
-// Whether an entry with these words is the one looked for. The first test that fails decides, and the kind is tested first: a
-// tentative entry may have a file's name, and the channel word of a permanent one means nothing.
-pub fn is_keyed(
-    key: Key,
-    status: u16,
-    first: u16,
-    second: u16,
-    extension: u16,
-    channel: u16,
-) -> bool
-    ensures { λ r. ⌜ r ≡ keyedBy key (kindOf status) first second extension channel ⌝ }
+// Whether an entry with these words has the key. The first test that fails decides, and the kind is tested first: a tentative entry
+// may have a file's name, and the channel word of a permanent one means nothing.
+pub fn is_keyed(key: Key, status: u16, name: Name, channel: u16) -> bool
+    ensures { λ r. ⌜ r ≡ keyedBy key (kindOf status) name channel ⌝ }
 {
     match key {
-        Key::File(key_first, key_second, key_extension) => {
+        Key::File(wanted) => {
             if !kinds::is_permanent(status) {
                 return false;
             }
-            if first != key_first {
-                return false;
-            }
-            if second != key_second {
-                return false;
-            }
-            extension == key_extension
+            same_name(name, wanted)
         }
-        Key::Open(key_word) => {
+        Key::Open(wanted) => {
             if !kinds::is_tentative(status) {
                 return false;
             }
-            channel == key_word
+            channel == wanted
         }
     }
 }
 
-// Whether the slot that begins at this word is the entry looked for.
+// Whether the slot that begins at this word is an entry of the key.
 pub fn slot_keyed(segment: &[u16], word: usize, width: usize, key: Key) -> bool
     requires { ⌜ (7 ≤ width) × (word + width ≤ length (now segment)) ⌝ }
-    ensures { λ r. ⌜ r ≡ keyed key (take width (drop word (now (segment .entry)))) ⌝ }
+    ensures { λ r. ⌜ r ≡ holds key (take width (drop word (now (segment .entry)))) ⌝ }
 {
-    is_keyed(
-        key,
-        segment[word],
-        segment[word + 1],
-        segment[word + 2],
-        segment[word + 3],
-        segment[word + 5],
-    )
+    let name = name_at(segment, word, width);
+    is_keyed(key, segment[word], name, segment[word + 5])
 }
 
 // The first entry looked for in the segment of this number, whose words begin at word `base` of the directory and whose blocks

@@ -4,6 +4,7 @@
 use Prim.Native.Nat.{ℕ, zero, suc, _+_, _/_, _≤_, _<_}
 use mathlib.Core.Path.{_≡_, refl, sym, ap, _∙_}
 use mathlib.Core.Bool.{true, false, true≢false}
+use mathlib.Core.List.{List}
 use native.Mathlib.Omega.{arith}
 use lib.IntN.{ℤ, pos, negsuc, natAbs}
 use lib.Signed.{ltZ, nonNeg}
@@ -12,8 +13,8 @@ use mir.Syntax.{w32}
 use mir.Val.{ofZ, toZ, Fits, SFits}
 use mir.ValLaws.{toZ-ofZ}
 use borrow.Author.Tests.{ltb-true, eq-eqb, ne-eqb, le-leb, lt-leb}
-use Rattle.meaning.specs.Enter.{longest, default, wrong, exact, sizeOf, wanted}
-use Rattle.size.specs.Asks.{Wanted}
+use Rattle.meaning.specs.Enter.{Size, longest, default, wrong, exact, sizeOf, longestOf, secondOf, wanted}
+use Rattle.size.specs.Asks.{wantedBy, Wanted}
 use Rattle.size.specs.declared.Asked.{Asked}
 use Rattle.size.specs.declared.Asked.the-variants.{Longest, Default, Wrong, Exact}
 
@@ -79,22 +80,30 @@ module _ (z : ℤ) (f : SFits w32 z) where
 -- what is wanted of areas, for each case
 module _ (asked : Asked) (long second : ℕ) where
   pub wants-longest : asked ≡ Longest → long ≤ 65535 → Wanted long asked long second
-  unfolding wanted
-  wants-longest e l = rw e (record { is = λ ns p q. p; small = l })
+  unfolding wantedBy
+  wants-longest e l = rw e (record { is = refl; small = l })
 
   pub wants-half : (half : ℕ) → asked ≡ Default → half ≡ (long + 1) / 2 → second < half → half ≤ 65535
       → Wanted half asked long second
-  unfolding wanted
-  wants-half half e h k l = rw e (record { is = λ ns p q. omega arith; small = l })
+  unfolding wantedBy
+  wants-half half e h k l = rw e (record { is = omega arith; small = l })
 
   pub wants-second : asked ≡ Default → (long + 1) / 2 ≤ second → second ≤ 65535 → Wanted second asked long second
-  unfolding wanted
-  wants-second e h l = rw e (record { is = λ ns p q. omega arith; small = l })
+  unfolding wantedBy
+  wants-second e h l = rw e (record { is = omega arith; small = l })
 
   pub wants-none : asked ≡ Wrong → Wanted 0 asked long second
-  unfolding wanted
-  wants-none e = rw e (record { is = λ ns p q. refl; small = omega arith })
+  unfolding wantedBy
+  wants-none e = rw e (record { is = refl; small = omega arith })
 
   pub wants-exact : (n : ℕ) → asked ≡ Exact n → n ≤ 65535 → Wanted n asked long second
-  unfolding wanted
-  wants-exact n e l = rw e (record { is = λ ns p q. refl; small = l })
+  unfolding wantedBy
+  wants-exact n e l = rw e (record { is = refl; small = l })
+
+-- of the longest and the second longest of some lengths it is the meaning's
+pub wanted-by : (size : Size) (ns : List ℕ) → wantedBy size (longestOf ns) (secondOf ns) ≡ wanted size ns
+unfolding wantedBy wanted
+wanted-by longest ns = refl
+wanted-by default ns = refl
+wanted-by wrong ns = refl
+wanted-by (exact n) ns = refl

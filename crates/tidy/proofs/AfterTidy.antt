@@ -45,11 +45,6 @@ module _ (d t : List ℕ) (k : TidyKept d t) where
       let w = c .whole in
       rw (k .used s l h) (tidy-total (entries d s) (entries-long d s l (omega arith)))
 
-  pub small-same : Chained d → Small d → Small t
-  small-same c m s l h =
-      let e = highest-same in
-      rw (total-same c s l (omega arith)) (m s l (omega arith))
-
 filled-start : (v : ℕ) (d : List ℕ) (ss : List ℕ) (b : ℕ) → filled v d b ss ≡ true → b ≤ v
 unfolding filled
 filled-start v d [] b h = let e = eqb-true b v h in omega arith
@@ -69,7 +64,8 @@ filled-end v d (s ∷ ss) b x h f = go (ℕ-discrete s x) (filled-end v d ss (b 
 
     go : Dec (s ≡ x) → (times x ss ≡ 1 → firstOf (segment d x) + total (entries d x) ≤ v)
         → firstOf (segment d x) + total (entries d x) ≤ v
-    go (yes e) i = rw (sym e) (let j = filled-start v d ss (b + total (entries d s)) (p .1) in omega (arith, eqb-true (firstOf (segment d s)) b (p .0)))
+    go (yes e) i =
+        rw (sym e) (let j = filled-start v d ss (b + total (entries d s)) (p .1) in omega (arith, eqb-true (firstOf (segment d s)) b (p .0)))
     go (no e) i = i (rw (ne-eqb s x e) at f)
 
 -- each segment in use ends by V

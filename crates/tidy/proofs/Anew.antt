@@ -1,35 +1,23 @@
 -- A segment written anew into zeroed words: the header, the entries, the marker, and the zeros that are left, which is the
--- rendered segment. Where the entries have not become fewer the tidy has changed none of them, and the segment is as it was.
--- Assumes nothing.
-use Prim.Native.Nat.{ℕ, zero, suc, _+_, _-_, _≤_, _<_}
-use native.Mathlib.Nat.{sub-zero, zero-sub, suc-sub-suc, not-suc-le-zero, le-of-suc-le-suc}
+-- rendered segment. Entries that are not untidy are changed by none of it, and the segment is as it was. Assumes nothing.
+use Prim.Native.Nat.{ℕ, _+_, _-_, _≤_, _<_}
 use native.Mathlib.Omega.{arith}
 use mathlib.Core.Path.{_≡_, refl, sym, ap, _∙_}
 use mathlib.Core.Bool.{Bool, true, false, cond}
 use mathlib.Core.List.{List, [], _∷_, _++_, append-assoc}
 use lib.ListN.{length, getD, take, drop, replicate, length-append, length-drop, length-replicate}
 use lib.Seq.{paste, take-length, length-take-le, take-at, drop-at, drop-drop, take-append-add, getD-take}
-use lib.Dec.{eqb}
-use borrow.Author.Tests.{eq-eqb, ne-eqb, eqb-true, eqb-false, ltb-true, ltb-false}
-use Rattle.meaning.specs.Words.{Entry, slotCount, slots, upto}
+use Rattle.meaning.specs.Kinds.{endStatus}
+use Rattle.meaning.specs.Words.{Entry, slots, upto}
 use Rattle.meaning.specs.Requests.{flat, render}
-use Rattle.meaning.specs.Enter.{tidy}
-use Rattle.walks.proofs.Tidied.{Kept, tidy-kept}
+use Rattle.meaning.specs.Enter.{tidy, untidy}
+use Rattle.walks.proofs.Untidy.{tidy-none, tidy-fewer}
 use Rattle.copying.specs.Written.{Written}
-use Rattle.tidy.specs.Tidied.{TidyWritten, tidiedWords}
-use Rattle.copying.proofs.Writes.{copied-whole}
+use Rattle.tidy.specs.Tidied.{tidiedWords}
+use Rattle.tidy.specs.OpenRun.{Finished}
+use Rattle.copying.proofs.Writes.{copied-whole, drop-zeros, take-zeros}
 use Rattle.tidy.proofs.Flat.{entries-proper, entries-count, flat-split, render-length, render-head, render-entries}
-use Rattle.tidy.proofs.Tidying.{tidy-proper, proper-long}
-
-drop-zeros : (n m : ℕ) → drop {A = ℕ} n (replicate m 0) ≡ replicate (m - n) 0
-drop-zeros zero m = rw (sub-zero m)
-drop-zeros (suc n) zero = rw (zero-sub (suc n))
-drop-zeros (suc n) (suc m) = rw (suc-sub-suc m n) (drop-zeros n m)
-
-take-zeros : (n m : ℕ) → n ≤ m → take {A = ℕ} n (replicate m 0) ≡ replicate n 0
-take-zeros zero m h = refl
-take-zeros (suc n) zero h = absurd (not-suc-le-zero h)
-take-zeros (suc n) (suc m) h = ap {B = List ℕ} (λ l. 0 ∷ l) (take-zeros n m (le-of-suc-le-suc h))
+use Rattle.tidy.proofs.Tidying.{tidy-proper}
 
 -- the words l, written behind the header h into m words that were 0
 written-anew : (m : ℕ) (h l b a : List ℕ) (z : ℕ) → length h ≡ 5 → 5 ≤ m → b ≡ h ++ drop 5 (replicate m 0)
@@ -55,19 +43,19 @@ written-anew m h l b a z n k e u =
 
 -- the header h and the entries with their marker
 pub rendered : (h b a : List ℕ) (es : List Entry) (z : ℕ) → length h ≡ 5 → b ≡ h ++ drop 5 (replicate 512 0)
-    → Written b 5 (flat es (2048 ∷ [])) a z → a ≡ render h es
+    → Written b 5 (flat es (endStatus ∷ [])) a z → a ≡ render h es
 unfolding render
 rendered h b a es z n e u =
-    let w : flat es (2048 ∷ []) ++ replicate 512 0 ≡ flat es (2048 ∷ replicate 512 0) =
-    ap {B = List ℕ} (λ l. l ++ replicate 512 0) (flat-split es (2048 ∷ []))
-    ∙ append-assoc (flat es []) (2048 ∷ []) (replicate 512 0)
-    ∙ sym (flat-split es (2048 ∷ replicate 512 0)) in
-    written-anew 512 h (flat es (2048 ∷ [])) b a z n (omega arith) e u ∙ ap {B = List ℕ} (λ l. take 512 (h ++ l)) w
+    let w : flat es (endStatus ∷ []) ++ replicate 512 0 ≡ flat es (endStatus ∷ replicate 512 0) =
+    ap {B = List ℕ} (λ l. l ++ replicate 512 0) (flat-split es (endStatus ∷ []))
+    ∙ append-assoc (flat es []) (endStatus ∷ []) (replicate 512 0)
+    ∙ sym (flat-split es (endStatus ∷ replicate 512 0)) in
+    written-anew 512 h (flat es (endStatus ∷ [])) b a z n (omega arith) e u ∙ ap {B = List ℕ} (λ l. take 512 (h ++ l)) w
 
 -- the segment's own header copied, and all copied back
 copied-back : (g b a x : List ℕ) (es : List Entry) (z : ℕ) → length g ≡ 512
     → b ≡ paste (replicate 512 0) 0 (take 5 g) (length (take 5 g))
-    → Written b 5 (flat es (2048 ∷ [])) a z → x ≡ paste g 0 a (length a) → x ≡ render (take 5 g) es
+    → Written b 5 (flat es (endStatus ∷ [])) a z → x ≡ paste g 0 a (length a) → x ≡ render (take 5 g) es
 copied-back g b a x es z n e u q =
     let h : List ℕ = take 5 g in
     let k : length h ≡ 5 = length-take-le 5 g (omega arith) in
@@ -82,27 +70,15 @@ entriesIn w g = upto (slots w g)
 abbrev tidiedIn : ℕ → List ℕ → List Entry
 tidiedIn w g = tidy (upto (slots w g))
 
-less : (a b m : ℕ) → a ≤ b → (a ≡ b → ⊥) → b ≤ m → a < m
-less a b m h f l = omega arith
-
 module _ (w : ℕ) (g : List ℕ) (n : length g ≡ 512) (wide : 7 ≤ w) where
-  kept : Kept (entriesIn w g) (tidiedIn w g)
-  kept = tidy-kept (entriesIn w g) (proper-long w (entriesIn w g) wide (entries-proper w g n))
-
-  pub stays : (b a : List ℕ) (r : Bool) → TidyWritten w g b a r → r ≡ false → g ≡ tidiedWords w g
+  pub stays : untidy (entriesIn w g) ≡ false → g ≡ tidiedWords w g
   unfolding tidiedWords
-  stays b a r t e =
-      let k = kept .fewer in
-      let l = ltb-false (length (tidiedIn w g)) (length (entriesIn w g)) (sym (t .is) ∙ e) in
-      rw (eq-eqb (length (tidiedIn w g)) (length (entriesIn w g)) (omega arith))
+  stays u = rw u
 
-  pub changes : (b a x : List ℕ) (r : Bool) → TidyWritten w g b a r → r ≡ true
+  pub changed : (b a x : List ℕ) → untidy (entriesIn w g) ≡ true → Finished b 5 (tidiedIn w g) a
       → b ≡ paste (replicate 512 0) 0 (take 5 g) (length (take 5 g)) → x ≡ paste g 0 a (length a) → x ≡ tidiedWords w g
   unfolding tidiedWords
-  changes b a x r t e f q =
-      let l = ltb-true (length (tidiedIn w g)) (length (entriesIn w g)) (sym (t .is) ∙ e) in
-      rw (ne-eqb (length (tidiedIn w g)) (length (entriesIn w g)) (λ i. omega arith))
-      (copied-back g b a x (tidiedIn w g) _ n f (t .written e) q)
+  changed b a x u t f q = rw u (copied-back g b a x (tidiedIn w g) _ n f t q)
 
   -- the tidied words: as many, with the same header, and the tidied entries
   header-length : length (take 5 g) ≡ 5
@@ -110,30 +86,29 @@ module _ (w : ℕ) (g : List ℕ) (n : length g ≡ 512) (wide : 7 ≤ w) where
 
   pub words-length : length (tidiedWords w g) ≡ 512
   unfolding tidiedWords
-  words-length = go (eqb (length (tidiedIn w g)) (length (entriesIn w g)))
+  words-length = go (untidy (entriesIn w g))
     where
-      go : (x : Bool) → length (cond x g (render (take 5 g) (tidiedIn w g))) ≡ 512
-      go true = n
-      go false = render-length (take 5 g) (tidiedIn w g)
+      go : (x : Bool) → length (cond x (render (take 5 g) (tidiedIn w g)) g) ≡ 512
+      go false = n
+      go true = render-length (take 5 g) (tidiedIn w g)
 
   pub words-header : (k : ℕ) → k < 5 → getD (tidiedWords w g) k 0 ≡ getD g k 0
   unfolding tidiedWords
-  words-header k h = go (eqb (length (tidiedIn w g)) (length (entriesIn w g)))
+  words-header k h = go (untidy (entriesIn w g))
     where
-      go : (x : Bool) → getD (cond x g (render (take 5 g) (tidiedIn w g))) k 0 ≡ getD g k 0
-      go true = refl
-      go false =
+      go : (x : Bool) → getD (cond x (render (take 5 g) (tidiedIn w g)) g) k 0 ≡ getD g k 0
+      go false = refl
+      go true =
           let l = header-length in
           render-head (take 5 g) (tidiedIn w g) k (omega arith) (omega arith) ∙ getD-take 5 g k 0 h
 
   pub words-entries : upto (slots w (tidiedWords w g)) ≡ tidiedIn w g
   unfolding tidiedWords
-  words-entries = go (eqb (length (tidiedIn w g)) (length (entriesIn w g))) refl
+  words-entries = go (untidy (entriesIn w g)) refl
     where
-      go : (x : Bool) → eqb (length (tidiedIn w g)) (length (entriesIn w g)) ≡ x
-          → upto (slots w (cond x g (render (take 5 g) (tidiedIn w g)))) ≡ tidiedIn w g
-      go true e = sym (kept .same (eqb-true (length (tidiedIn w g)) (length (entriesIn w g)) e))
-      go false e =
-          let f = eqb-false (length (tidiedIn w g)) (length (entriesIn w g)) e in
+      go : (x : Bool) → untidy (entriesIn w g) ≡ x
+          → upto (slots w (cond x (render (take 5 g) (tidiedIn w g)) g)) ≡ tidiedIn w g
+      go false e = sym (tidy-none (entriesIn w g) e)
+      go true e =
           render-entries w (take 5 g) (tidiedIn w g) wide header-length (tidy-proper w (entriesIn w g) (entries-proper w g n))
-          (less (length (tidiedIn w g)) (length (entriesIn w g)) (slotCount w) (kept .fewer) f (entries-count w g))
+          (omega (arith, tidy-fewer (entriesIn w g) e, entries-count w g))

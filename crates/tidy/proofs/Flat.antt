@@ -8,7 +8,7 @@ use mathlib.Core.Bool.{Bool, true, false, cond}
 use mathlib.Core.List.{List, [], _∷_, _++_, append-assoc}
 use lib.ListN.{length, getD, take, drop, replicate, length-append, length-drop, length-replicate, List·getD-append}
 use lib.Seq.{getD-take, take-take, take-nil, take-at, drop-at, length-take-le}
-use Rattle.meaning.specs.Kinds.{kindOf, isEnd}
+use Rattle.meaning.specs.Kinds.{endStatus, kindOf, isEnd}
 use Rattle.meaning.specs.Words.{Entry, kind, slotCount, chunks, slots, upto}
 use Rattle.meaning.specs.Requests.{flat, render}
 
@@ -77,10 +77,10 @@ flat-length w (e ∷ es) h =
     omega arith
 
 -- a rendered segment: 512 words, and the header as it is
-rendered : (n : ℕ) (h : List ℕ) (es : List Entry) (z : List ℕ) → n ≤ length z → length (take n (h ++ flat es (2048 ∷ z))) ≡ n
+rendered : (n : ℕ) (h : List ℕ) (es : List Entry) (z : List ℕ) → n ≤ length z → length (take n (h ++ flat es (endStatus ∷ z))) ≡ n
 rendered n h es z k =
-    length-take-le n (h ++ flat es (2048 ∷ z))
-    (omega (arith, length-append h (flat es (2048 ∷ z)), flat-long es (2048 ∷ z)))
+    length-take-le n (h ++ flat es (endStatus ∷ z))
+    (omega (arith, length-append h (flat es (endStatus ∷ z)), flat-long es (endStatus ∷ z)))
 
 pub render-length : (h : List ℕ) (es : List Entry) → length (render h es) ≡ 512
 unfolding render
@@ -89,8 +89,8 @@ render-length h es = rendered 512 h es (replicate 512 0) (le-of-eq (sym (length-
 pub render-head : (h : List ℕ) (es : List Entry) (k : ℕ) → k < length h → length h ≤ 512 → getD (render h es) k 0 ≡ getD h k 0
 unfolding render
 render-head h es k a b =
-    getD-take 512 (h ++ flat es (2048 ∷ replicate 512 0)) k 0 (omega arith)
-    ∙ List·getD-append h (flat es (2048 ∷ replicate 512 0)) 0 k a
+    getD-take 512 (h ++ flat es (endStatus ∷ replicate 512 0)) k 0 (omega arith)
+    ∙ List·getD-append h (flat es (endStatus ∷ replicate 512 0)) 0 k a
 
 -- its entries are read back
 drop-take : (a b : ℕ) (l : List ℕ) → drop a (take b l) ≡ take (b - a) (drop a l)
@@ -100,25 +100,25 @@ drop-take (suc a) (suc b) [] = sym (take-nil (suc b - suc a))
 drop-take (suc a) (suc b) (x ∷ l) = rw suc-sub-suc (drop-take a b l)
 
 cut-flat : (w : ℕ) (z : List ℕ) → 7 ≤ w → (es : List Entry) (n j : ℕ) → Proper w es → length es < n → (length es + 1) * w ≤ j
-    → upto (chunks n w (take j (flat es (2048 ∷ z)))) ≡ es
+    → upto (chunks n w (take j (flat es (endStatus ∷ z)))) ≡ es
 unfolding chunks upto flat kindOf
 cut-flat w z h es zero j a l g = absurd (omega arith)
 cut-flat w z h [] (suc n) j a l g =
-    rw (getD-take w (take j (2048 ∷ z)) 0 0 (omega arith), getD-take j (2048 ∷ z) 0 0 (omega arith))
+    rw (getD-take w (take j (endStatus ∷ z)) 0 0 (omega arith), getD-take j (endStatus ∷ z) 0 0 (omega arith))
 cut-flat w z h (e ∷ es) (suc n) j a l g =
     let m = suc-mul (length es + 1) w in
-    let t : take w (take j (e ++ flat es (2048 ∷ z))) ≡ e =
-    take-take w j (e ++ flat es (2048 ∷ z)) (omega arith) ∙ take-at e (flat es (2048 ∷ z)) w (a .0) in
-    let u : drop w (take j (e ++ flat es (2048 ∷ z))) ≡ take (j - w) (flat es (2048 ∷ z)) =
-    drop-take w j (e ++ flat es (2048 ∷ z)) ∙ ap (take (j - w)) (drop-at e (flat es (2048 ∷ z)) w (a .0)) in
+    let t : take w (take j (e ++ flat es (endStatus ∷ z))) ≡ e =
+    take-take w j (e ++ flat es (endStatus ∷ z)) (omega arith) ∙ take-at e (flat es (endStatus ∷ z)) w (a .0) in
+    let u : drop w (take j (e ++ flat es (endStatus ∷ z))) ≡ take (j - w) (flat es (endStatus ∷ z)) =
+    drop-take w j (e ++ flat es (endStatus ∷ z)) ∙ ap (take (j - w)) (drop-at e (flat es (endStatus ∷ z)) w (a .0)) in
     rw (t, u, a .1, cut-flat w z h es n (j - w) (a .2) (omega arith) (omega arith))
 
 pub render-entries : (w : ℕ) (h : List ℕ) (es : List Entry) → 7 ≤ w → length h ≡ 5 → Proper w es → length es < slotCount w
     → upto (slots w (render h es)) ≡ es
 unfolding slots render
 render-entries w h es wide e a l =
-    let t : drop 5 (take 512 (h ++ flat es (2048 ∷ replicate 512 0))) ≡ take 507 (flat es (2048 ∷ replicate 512 0)) =
-    drop-take 5 512 (h ++ flat es (2048 ∷ replicate 512 0))
-    ∙ ap (take 507) (drop-at h (flat es (2048 ∷ replicate 512 0)) 5 e) in
+    let t : drop 5 (take 512 (h ++ flat es (endStatus ∷ replicate 512 0))) ≡ take 507 (flat es (endStatus ∷ replicate 512 0)) =
+    drop-take 5 512 (h ++ flat es (endStatus ∷ replicate 512 0))
+    ∙ ap (take 507) (drop-at h (flat es (endStatus ∷ replicate 512 0)) 5 e) in
     let g : (length es + 1) * w ≤ 507 = le-div-iff-mul-le {k = w} (omega arith) .0 (omega arith) in
     rw t (cut-flat w (replicate 512 0) wide es (507 / w) 507 a l g)

@@ -15,7 +15,8 @@ use Rattle.walks.specs.Links.{linked}
 use Rattle.walks.proofs.Tidied.{tidy-total, entries-long}
 use Rattle.chain.specs.Chained.{Chained}
 use Rattle.tidy.specs.Tidied.{Tidyable, tidiedWords, Small, TidiedFrom}
-use Rattle.tidy.proofs.Replaced.{head-word, partOf, part-is, part-put, segment-length}
+use Rattle.chain.proofs.Links.{header, part-is}
+use Rattle.chain.proofs.Replaced.{partOf, part-put, segment-length}
 use Rattle.tidy.proofs.Headers.{step, Framed, framed-self, framed-on, linked-kept, chain-kept, highest-kept, slots-kept}
 use Rattle.tidy.proofs.InPlace.{tidied-words, at-framed, at-entries, at-others, tidied-kept}
 
@@ -96,7 +97,7 @@ pub goes-on : {left : ℕ} {d₀ d : List ℕ} {s : ℕ} → 0 < left → Chaine
 goes-on {left = zero} {d₀} {d} {s} h c G {g} e = absurd (omega arith)
 goes-on {left = suc n} {d₀} {d} {s} h c G {g} e =
     let k : suc n - 1 ≡ n = omega arith in
-    rw (k, written-here n d₀ d s c G g e, ← head-word d s 1 (omega arith)) (later n d₀ d s c G)
+    rw (k, written-here n d₀ d s c G g e, ← header d s 1 (omega arith)) (later n d₀ d s c G)
 
 pub ends : {left : ℕ} {d₀ d : List ℕ} {s : ℕ} → left ≤ 0 → Chained d₀ → Going d₀ d left s → TidiedFrom d₀ d
 unfolding chainFrom tidied

@@ -17,7 +17,7 @@ use Rattle.meaning.specs.Sound.{any, times, eachOnce, differs, bad3}
 use Rattle.walks.specs.Links.{linked}
 use Rattle.walks.proofs.Linked.{bad3-walk}
 use Rattle.chain.specs.Chained.{Chained}
-use Rattle.tidy.proofs.Replaced.{head-word}
+use Rattle.chain.proofs.Links.{header}
 
 -- what the links say of the next segment
 pub step : (n : ℕ) (d : List ℕ) (s : ℕ) → linked (suc n) d s ≡ true
@@ -48,7 +48,7 @@ framed-on d t u f g = record {
 
 module _ (d t : List ℕ) (f : Framed d t) where
   pub word-kept : (k : ℕ) → k < 5 → getD t (0 + k) 0 ≡ getD d (0 + k) 0
-  word-kept k h = sym (head-word t 1 k (omega arith)) ∙ f .headers 1 k (omega arith) h ∙ head-word d 1 k (omega arith)
+  word-kept k h = sym (header t 1 k (omega arith)) ∙ f .headers 1 k (omega arith) h ∙ header d 1 k (omega arith)
 
   pub linked-kept : (n s : ℕ) → linked n d s ≡ true → linked n t s ≡ true
   unfolding linked

@@ -8,17 +8,16 @@ use mathlib.Core.Path.{_≡_, refl, sym, ap, _∙_}
 use mathlib.Core.Bool.{Bool, true, false, cond}
 use mathlib.Core.List.{List, [], _∷_}
 use lib.ListN.{length, getD}
-use lib.Dec.{eqb}
 use borrow.Author.Tests.{eq-eqb, ne-eqb}
 use Rattle.meaning.specs.Words.{segment, linkOf, highest, slotWords, entries, chainFrom, chain}
 use Rattle.meaning.specs.Sound.{times}
 use Rattle.meaning.specs.Requests.{render}
-use Rattle.meaning.specs.Enter.{tidy, withSegment, headerOf, tidiedAt, tidied}
+use Rattle.meaning.specs.Enter.{tidy, untidy, withSegment, headerOf, tidiedAt, tidied}
 use Rattle.walks.specs.Links.{linked}
 use Rattle.chain.specs.Chained.{Chained}
 use Rattle.tidy.specs.Tidied.{tidiedWords, TidyKept}
 use Rattle.tidy.proofs.Anew.{words-length, words-header, words-entries}
-use Rattle.tidy.proofs.Replaced.{segment-length, replaced-self, replaced-length, replaced-same, replaced-other}
+use Rattle.chain.proofs.Replaced.{segment-length, replaced-self, replaced-length, replaced-same, replaced-other}
 use Rattle.tidy.proofs.Headers.{step, Framed, framed-self, framed-on, slots-kept, links-kept, chained-kept}
 use Rattle.tidy.proofs.Headers.{used-once, unused-never}
 
@@ -30,13 +29,13 @@ entries-kept d t s f e = rw (slots-kept d t f, e)
 module _ (d : List ℕ) (s : ℕ) (low : 1 ≤ s) (whole : 512 * s ≤ length d) where
   pub tidied-words : tidiedAt d s ≡ withSegment d s (tidiedWords (slotWords d) (segment d s))
   unfolding tidiedAt tidiedWords entries headerOf
-  tidied-words = go (eqb (length (tidy (entries d s))) (length (entries d s)))
+  tidied-words = go (untidy (entries d s))
     where
       go : (x : Bool)
-          → cond x d (withSegment d s (render (headerOf d s) (tidy (entries d s))))
-          ≡ withSegment d s (cond x (segment d s) (render (headerOf d s) (tidy (entries d s))))
-      go true = sym (replaced-self d s low)
-      go false = refl
+          → cond x (withSegment d s (render (headerOf d s) (tidy (entries d s)))) d
+          ≡ withSegment d s (cond x (render (headerOf d s) (tidy (entries d s))) (segment d s))
+      go true = refl
+      go false = sym (replaced-self d s low)
 
   long : length (segment d s) ≡ 512
   long = segment-length d s low whole

@@ -2,8 +2,8 @@ pub mod Flat
 pub mod Runs
 pub mod Tidying
 pub mod Anew
-pub mod Replaced
 pub mod Headers
 pub mod InPlace
 pub mod Following
 pub mod AfterTidy
+pub mod Looking

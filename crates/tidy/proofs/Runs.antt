@@ -4,20 +4,20 @@
 use Prim.Native.Nat.{ℕ, _+_, _≤_, _<_}
 use native.Mathlib.Omega.{arith}
 use mathlib.Core.Path.{_≡_, refl, sym, _∙_}
-use mathlib.Core.Bool.{Bool, true, false, cond, _&&_, not, false≢true}
+use mathlib.Core.Bool.{Bool, true, false, cond, _&&_, not}
 use mathlib.Core.List.{List, [], _∷_, _++_, append-nil}
 use lib.ListN.{length, getD, take, drop, set, length-set, length-append, length-drop}
 use lib.Seq.{append-snoc, length-take-le}
 use lib.Dec.{eqb}
-use borrow.Author.Tests.{eq-eqb, ne-eqb, lt-ltb, le-ltb}
-use Rattle.meaning.specs.Kinds.{kindOf, isTentative, isEmpty}
+use borrow.Author.Tests.{eq-eqb, ne-eqb}
+use Rattle.meaning.specs.Kinds.{endStatus, kindOf, isTentative, isEmpty}
 use Rattle.meaning.specs.Words.{lengthWord, Entry, kind}
 use Rattle.meaning.specs.Requests.{flat}
 use Rattle.meaning.specs.Enter.{isArea}
-use Rattle.walks.specs.Runs.{Run, calm, absorb, flushed, tidyFrom}
+use Rattle.walks.specs.Runs.{RunSoFar, calm, absorb, flushed, tidyFrom}
 use Rattle.segment.proofs.Slots.{word, word0}
 use Rattle.copying.specs.Written.{Written}
-use Rattle.tidy.specs.OpenRun.{runOf, sumOf, absorbAt, runAfter, passed, leftOf, outOf, Behind, Placed, Finished}
+use Rattle.tidy.specs.OpenRun.{runOf, sumOf, absorbAt, runAfter, letOut, leftOf, outOf, Behind, Placed, Finished}
 use Rattle.tidy.specs.declared.tidy.RunAt.{RunAt}
 use Rattle.tidy.specs.declared.tidy.RunAt.the-variants.{Calm, Within}
 use Rattle.copying.proofs.Writes.{none-written, one-written, both-written}
@@ -86,41 +86,23 @@ placed-last g out w k q run h = record {
   behind = behind-more run w q k 512 (h .inside) (h .behind);
 }
 
--- the last run written, and then the marker, where the entries have become fewer
-module _ (g b m : List ℕ) (w k q z : ℕ) (run : RunAt) (h : Placed g b w k q run) (u : Written b q (leftOf g w run) m z) where
-  bound : q + length (leftOf g w run) ≤ k
-  bound = let i = h .inside in let n = h .whole in left-bound g run w q k (omega arith) (h .behind)
-
-  pub fewer : z < k → Finished (runOf g w run) k q b (set m z 2048) true
-  fewer l =
-      let i = h .inside in
-      let n = h .full in
-      let o = bound in
-      let v = u .long in
-      let e = u .next in
-      record {
-        is = sym (lt-ltb (q + length (leftOf g w run)) k (omega arith));
-        written = λ _.
-            rw (flat-split (flushed (runOf g w run)) (2048 ∷ []), ← u .next)
-            (both-written b (leftOf g w run) m (2048 ∷ []) (set m z 2048) q z (z + 1) (omega arith) u
-            (one-written m z 2048 (omega arith)));
-      }
-
-  pub no-fewer : k ≤ z → Finished (runOf g w run) k q b m false
-  no-fewer l =
-      let e = u .next in
-      record {
-        is = sym (le-ltb (q + length (leftOf g w run)) k (omega arith));
-        written = λ f. absurd (false≢true f);
-      }
+-- the last run written, and then the marker
+pub marked : (g b m : List ℕ) (w q z : ℕ) (run : RunAt) → q + length (leftOf g w run) < length b → Written b q (leftOf g w run) m z
+    → Finished b q (flushed (runOf g w run)) (set m z endStatus)
+marked g b m w q z run l u =
+    let v = u .long in
+    let e = u .next in
+    rw (flat-split (flushed (runOf g w run)) (endStatus ∷ []), ← u .next)
+    (both-written b (leftOf g w run) m (endStatus ∷ []) (set m z endStatus) q z (z + 1) (omega arith) u
+    (one-written m z endStatus (omega arith)))
 
 -- the run after an entry
-abbrev pub after : Run → Entry → Run
+abbrev pub after : RunSoFar → Entry → RunSoFar
 after r f = cond (isArea f) (absorb r f) (calm (isTentative (kind f)))
 
 -- the tidy lets out what its first entry lets out, and goes on with the run after it
-pub tidy-step : (r : Run) (f : Entry) (fs : List Entry) → tidyFrom r (f ∷ fs) ≡ passed r f ++ tidyFrom (after r f) fs
-unfolding tidyFrom passed
+pub tidy-step : (r : RunSoFar) (f : Entry) (fs : List Entry) → tidyFrom r (f ∷ fs) ≡ letOut r f ++ tidyFrom (after r f) fs
+unfolding tidyFrom letOut
 tidy-step r f fs = go (isArea f)
   where
     go : (x : Bool)
@@ -143,11 +125,11 @@ nextOf g p run = runAfter run p (getD g p 0) (getD g (p + 4) 0)
 
 module _ (g : List ℕ) (w p : ℕ) (run : RunAt) (wide : 7 ≤ w) where
   pub area-out : (b : List ℕ) (q : ℕ) → isEmpty (kindOf (getD g p 0)) ≡ true → Written b q (outOf g w p run) b q
-  unfolding passed flat
+  unfolding letOut flat
   area-out b q e = rw (word0 g p w (omega arith), e) (none-written b q)
 
   other-words : isEmpty (kindOf (getD g p 0)) ≡ false → outOf g w p run ≡ leftOf g w run ++ take w (drop p g)
-  unfolding passed flat
+  unfolding letOut flat
   other-words e =
       rw (
         word0 g p w (omega arith),
@@ -177,7 +159,7 @@ module _ (g : List ℕ) (w p : ℕ) (run : RunAt) (wide : 7 ≤ w) where
 
   pub next-behind : (q : ℕ) → p + w ≤ length g → Behind run w q p → sumOf run + getD g (p + 4) 0 ≤ 65535
       → Behind (nextOf g p run) w (q + length (outOf g w p run)) (p + w)
-  unfolding runAfter passed flat
+  unfolding runAfter letOut flat
   next-behind q l b s = rw (word0 g p w (omega arith)) (go (isEmpty (kindOf (getD g p 0))))
     where
       go : (x : Bool)

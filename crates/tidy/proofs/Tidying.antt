@@ -1,33 +1,32 @@
 -- The tidy of a segment's entries, written as they are met. The loop keeps this: whatever finishes the slots still ahead, written
--- from here, finishes all of them, written from word 5; at the end nothing is ahead. Every entry has as many words out as in, so
--- the places of the last write and the last read tell whether the entries have become fewer. Assumes nothing.
-use Prim.Native.Nat.{ℕ, zero, suc, _+_, _*_, _-_, _≤_, _<_}
+-- from here, finishes all of them, written from word 5; at the end nothing is ahead. Every entry has as many words out as in, and
+-- untidy entries become fewer, so there is room for the marker. Assumes nothing.
+use Prim.Native.Nat.{ℕ, suc, _+_, _*_, _-_, _≤_, _<_}
 use native.Mathlib.Nat.{suc-mul, mul-le-mul-right, div-mul-le-self}
 use native.Mathlib.Omega.{arith}
-use mathlib.Core.Path.{_≡_, refl, sym, _∙_}
+use mathlib.Core.Path.{_≡_, refl, _∙_}
 use mathlib.Core.Bool.{Bool, true, false, cond, _&&_, not}
-use mathlib.Core.Logic.{⊎-elim}
 use mathlib.Core.List.{List, [], _∷_, _++_}
 use lib.ListN.{length, getD, take, drop, set, length-set, length-append}
-use lib.Seq.{drop-drop, getD-set-other}
-use lib.Dec.{eqb, ltb}
-use borrow.Author.Tests.{lt-ltb, le-ltb}
-use Rattle.bools.proofs.Bools.{either-side}
-use Rattle.meaning.specs.Kinds.{kindOf, isTentative, isEnd}
-use Rattle.meaning.specs.Words.{Entry, lengthWord, kind, blocks, slotCount, chunks, slots, upto, total}
+use lib.Seq.{getD-set-other}
+use lib.Dec.{eqb}
+use Rattle.meaning.specs.Kinds.{endStatus, kindOf, isTentative, isEnd}
+use Rattle.meaning.specs.Words.{Entry, lengthWord, kind, blocks, slotCount, slots, upto, total}
 use Rattle.meaning.specs.Requests.{flat}
-use Rattle.meaning.specs.Enter.{isArea, joinTo, joined, dropZero, tidy}
-use Rattle.walks.specs.Runs.{calm, tidyFrom, Long}
+use Rattle.meaning.specs.Enter.{isArea, joinTo, joined, dropZero, tidy, untidy}
+use Rattle.walks.specs.Runs.{calm, flushed, tidyFrom, Long}
 use Rattle.walks.proofs.Tidied.{tidy-from}
-use Rattle.segment.proofs.Slots.{word, word0, mul-less, chunks-step}
+use Rattle.walks.proofs.Untidy.{tidy-fewer}
+use Rattle.segment.proofs.Slots.{word, mul-less}
+use Rattle.segment.proofs.Ahead.{ahead, ahead-next}
 use Rattle.copying.specs.Written.{Written}
-use Rattle.tidy.specs.OpenRun.{runOf, sumOf, passed, leftOf, outOf, Behind, Placed, Finished}
-use Rattle.tidy.specs.Tidied.{Tidyable, TidyWritten}
+use Rattle.tidy.specs.OpenRun.{runOf, sumOf, letOut, leftOf, outOf, Behind, Placed, Finished}
+use Rattle.tidy.specs.Tidied.{Tidyable}
 use Rattle.tidy.specs.declared.tidy.RunAt.{RunAt}
 use Rattle.tidy.specs.declared.tidy.RunAt.the-variants.{Calm}
 use Rattle.copying.proofs.Writes.{both-written}
 use Rattle.tidy.proofs.Flat.{Proper, entries-proper, flat-append, flat-length}
-use Rattle.tidy.proofs.Runs.{left-bound, tidy-step, nextOf, next-is, next-behind, next-sum}
+use Rattle.tidy.proofs.Runs.{left-bound, placed-last, tidy-step, nextOf, next-is, next-behind, next-sum}
 
 -- the tidy of proper entries is proper
 join-proper : (w : ℕ) (e : Entry) (es : List Entry) → length e ≡ w → isEnd (kind e) ≡ false → Proper w es → Proper w (joinTo e es)
@@ -64,38 +63,6 @@ tidy-proper w es h = drop-proper w false (joined es) (joined-proper w es h)
 pub proper-long : (w : ℕ) (es : List Entry) → 7 ≤ w → Proper w es → Long es
 proper-long w [] l h = tt
 proper-long w (e ∷ es) l h = (let n = h .0 in omega arith, proper-long w es l (h .2))
-
--- the entries still ahead: none at the marker, or one and those after it
-abbrev pub ahead : List ℕ → ℕ → ℕ → ℕ → List Entry
-ahead g w left p = upto (chunks left w (drop p g))
-
-module _ (g : List ℕ) (w left p : ℕ) (h : 0 < left) (wide : 7 ≤ w) where
-  ahead-step : ahead g w left p
-      ≡ cond (isEnd (kindOf (getD g p 0))) [] (take w (drop p g) ∷ ahead g w (left - 1) (p + w))
-  unfolding upto
-  ahead-step = rw (chunks-step left w (drop p g) h, drop-drop w p g, word0 g p w (omega arith))
-
-  pub ahead-end : isEnd (kindOf (getD g p 0)) ≡ true → ahead g w left p ≡ []
-  ahead-end e = ahead-step ∙ rw e
-
-  ahead-more : isEnd (kindOf (getD g p 0)) ≡ false → ahead g w left p ≡ take w (drop p g) ∷ ahead g w (left - 1) (p + w)
-  ahead-more e = ahead-step ∙ rw e
-
-pub ahead-none : (g : List ℕ) (w left p : ℕ) → left ≤ 0 → ahead g w left p ≡ []
-unfolding chunks upto
-ahead-none g w zero p h = refl
-ahead-none g w (suc left) p h = absurd (omega arith)
-
--- which of two counts of slots is less, by the places after them
-by-words : (x y m n w : ℕ) → 7 ≤ w → x ≡ 5 + m * w → y ≡ 5 + n * w → ltb x y ≡ ltb m n
-by-words x y m n w wide e f =
-    ⊎-elim
-    (λ l.
-    let k = mul-le-mul-right w l in
-    let s = suc-mul m w in
-    lt-ltb x y (omega arith) ∙ sym (lt-ltb m n l))
-    (λ l. let k = mul-le-mul-right w l in le-ltb x y (omega arith) ∙ sym (le-ltb m n l))
-    (either-side m n)
 
 -- the loop's invariant: left slots are ahead, the next read at word p and the next write at q; b is what is written to as it came
 pub record Tidying (g b : List ℕ) (w : ℕ) (out : List ℕ) (left p q : ℕ) (run : RunAt) : Type 0 where
@@ -144,7 +111,7 @@ module _ {g b : List ℕ} {w : ℕ} {out : List ℕ} {left p q : ℕ} {run : Run
   module _ (h : 0 < left) (e : isEnd (kindOf (getD g p 0)) ≡ false) where
     sum-more : total (ahead g w left p) ≡ getD g (p + 4) 0 + total (ahead g w (left - 1) (p + w))
     unfolding total
-    sum-more = rw (ahead-more g w left p h wide e, word g p w 4 (omega arith))
+    sum-more = rw (ahead-next g w left p h wide e, word g p w 4 (omega arith))
 
     pub sum-fits : sumOf run + getD g (p + 4) 0 ≤ 65535
     sum-fits = let s = T .sums in let m = sum-more in omega arith
@@ -156,9 +123,9 @@ module _ {g b : List ℕ} {w : ℕ} {out : List ℕ} {left p q : ℕ} {run : Run
     step : (t : List ℕ) → flat (tidyFrom (runOf g w run) (ahead g w left p)) t ≡ outOf g w p run ++ rest t
     step t =
         rw (
-          ahead-more g w left p h wide e,
+          ahead-next g w left p h wide e,
           tidy-step (runOf g w run) (take w (drop p g)) (ahead g w (left - 1) (p + w)),
-          flat-append (passed (runOf g w run) (take w (drop p g))) _ t,
+          flat-append (letOut (runOf g w run) (take w (drop p g))) _ t,
           next-is g w p run wide,
         )
 
@@ -176,7 +143,7 @@ module _ {g b : List ℕ} {w : ℕ} {out : List ℕ} {left p q : ℕ} {run : Run
           sums = let s = T .sums in let k = sum-more in let i = next-sum g w p run wide in omega arith;
           count =
               let c : p + suc (length (ahead g w (left - 1) (p + w))) * w ≡ 5 + length (upto (slots w g)) * w =
-              rw (ahead-more g w left p h wide e) at (T .count) in
+              rw (ahead-next g w left p h wide e) at (T .count) in
               let k = suc-mul (length (ahead g w (left - 1) (p + w))) w in
               omega arith;
           place =
@@ -189,19 +156,30 @@ module _ {g b : List ℕ} {w : ℕ} {out : List ℕ} {left p q : ℕ} {run : Run
               T .same t s x (rw (step t) (both-written out (outOf g w p run) a (rest t) s q z x (omega arith) u v));
         })
 
-  -- no slot more
-  pub ends : {a : List ℕ} {r : Bool} → ahead g w left p ≡ [] → Finished (runOf g w run) p q out a r → TidyWritten w g b a r
-  unfolding tidyFrom
-  ends {a} {r} none f =
-      let es : List Entry = upto (slots w g) in
-      let proper = entries-proper w g (y .whole) in
-      let tidies = tidy-from es (proper-long w es wide proper) in
-      let long = flat-length w (tidy es) (tidy-proper w es proper) in
-      let read : p + 0 * w ≡ 5 + length es * w = rw none at (T .count) in
-      let wrote : q + length (leftOf g w run) ≡ 5 + length (flat (tidy es) []) = rw (none, tidies) at (T .place) in
-      record {
-        is =
-            f .is
-            ∙ by-words (q + length (leftOf g w run)) p (length (tidy es)) (length es) w wide (omega arith) (omega arith);
-        written = λ e. rw (← wrote, ← tidies) (T .same (2048 ∷ []) a _ (rw none (f .written e)));
-      }
+  -- no slot more: untidy entries have become fewer, so what is left to write ends before the last read
+  module _ (none : ahead g w left p ≡ []) where
+    wrote : q + length (leftOf g w run) ≡ 5 + length (flat (tidy (upto (slots w g))) [])
+    unfolding tidyFrom
+    wrote = rw (none, tidies) at (T .place)
+      where
+        tidies : tidyFrom (calm false) (upto (slots w g)) ≡ tidy (upto (slots w g))
+        tidies = tidy-from (upto (slots w g)) (proper-long w (upto (slots w g)) wide (entries-proper w g (y .whole)))
+
+    pub last-place : Placed g out w 512 q run
+    last-place = placed-last g out w p q run standing
+
+    pub last-room : untidy (upto (slots w g)) ≡ true → q + length (leftOf g w run) < 512
+    last-room u =
+        let es : List Entry = upto (slots w g) in
+        let l = flat-length w (tidy es) (tidy-proper w es (entries-proper w g (y .whole))) in
+        let k = mul-le-mul-right w (tidy-fewer es u) in
+        let s = suc-mul (length (tidy es)) w in
+        let c : p + 0 * w ≡ 5 + length es * w = rw none at (T .count) in
+        omega (arith, wrote, T .room)
+
+    pub ends : {a : List ℕ} → Finished out q (flushed (runOf g w run)) a → Finished b 5 (tidy (upto (slots w g))) a
+    unfolding tidyFrom
+    ends {a} f = rw (← wrote, ← tidies) (T .same (endStatus ∷ []) a _ (rw none f))
+      where
+        tidies : tidyFrom (calm false) (upto (slots w g)) ≡ tidy (upto (slots w g))
+        tidies = tidy-from (upto (slots w g)) (proper-long w (upto (slots w g)) wide (entries-proper w g (y .whole)))

@@ -1,2 +1,3 @@
 pub mod OpenRun
 pub mod Tidied
+pub mod Changes

@@ -1,21 +1,20 @@
 -- Where the tidy of a segment stands, as code holds it: a run of empty entries by the word of its first.
 use Prim.Native.Nat.{ℕ, _+_, _≤_}
 use mathlib.Core.Path.{_≡_}
-use mathlib.Core.Bool.{Bool, true, cond}
+use mathlib.Core.Bool.{cond}
 use mathlib.Core.List.{List, [], _∷_, _++_}
 use lib.ListN.{length, take, drop}
-use lib.Dec.{ltb}
-use Rattle.meaning.specs.Kinds.{kindOf, isTentative, isEmpty}
+use Rattle.meaning.specs.Kinds.{endStatus, kindOf, isTentative, isEmpty}
 use Rattle.meaning.specs.Words.{Entry}
 use Rattle.meaning.specs.Requests.{flat}
 use Rattle.meaning.specs.Enter.{isArea}
-use Rattle.walks.specs.Runs.{Run, calm, within, flushed}
+use Rattle.walks.specs.Runs.{RunSoFar, calm, within, flushed}
 use Rattle.copying.specs.Written.{Written}
 use Rattle.tidy.specs.declared.tidy.RunAt.{RunAt}
 use Rattle.tidy.specs.declared.tidy.RunAt.the-variants.{Calm, Within}
 
 -- the run of the definition, with its first entry from the segment's words g, in slots of w words
-abbrev pub runOf : List ℕ → ℕ → RunAt → Run
+abbrev pub runOf : List ℕ → ℕ → RunAt → RunSoFar
 runOf g w (Calm p) = calm p
 runOf g w (Within k t p) = within (take w (drop k g)) t p
 
@@ -34,15 +33,15 @@ unfoldable pub runAfter : RunAt → ℕ → ℕ → ℕ → RunAt
 runAfter run k status n = cond (isEmpty (kindOf status)) (absorbAt run k n) (Calm (isTentative (kindOf status)))
 
 -- what an entry lets out: an empty one nothing, any other the run that it ends, and itself
-unfoldable pub passed : Run → Entry → List Entry
-passed r f = cond (isArea f) [] (flushed r ++ f ∷ [])
+unfoldable pub letOut : RunSoFar → Entry → List Entry
+letOut r f = cond (isArea f) [] (flushed r ++ f ∷ [])
 
 -- the words that a run leaves, and those that the slot at word k lets out
 abbrev pub leftOf : List ℕ → ℕ → RunAt → List ℕ
 leftOf g w run = flat (flushed (runOf g w run)) []
 
 abbrev pub outOf : List ℕ → ℕ → ℕ → RunAt → List ℕ
-outOf g w k run = flat (passed (runOf g w run) (take w (drop k g))) []
+outOf g w k run = flat (letOut (runOf g w run) (take w (drop k g))) []
 
 -- the place q of the next write is not ahead of the next read at word k, and behind it by an entry where a run is open
 abbrev pub Behind : RunAt → ℕ → ℕ → ℕ → Type 0
@@ -59,8 +58,6 @@ pub record Placed (g out : List ℕ) (w k q : ℕ) (run : RunAt) : Type 0 where
   pub inside : k ≤ 512
   pub behind : Behind run w q k
 
--- the end of the entries at word k: whether the last run r, written from q on, ends before that; and then it is written, with the
--- marker
-pub record Finished (r : Run) (k q : ℕ) (before after : List ℕ) (fewer : Bool) : Type 0 where
-  pub is : fewer ≡ ltb (q + length (flat (flushed r) [])) k
-  pub written : fewer ≡ true → Written before q (flat (flushed r) (2048 ∷ [])) after (q + length (flat (flushed r) []) + 1)
+-- the entries es were written into b from q on, and the marker after them
+abbrev pub Finished : List ℕ → ℕ → List Entry → List ℕ → Type 0
+Finished b q es a = Written b q (flat es (endStatus ∷ [])) a (q + length (flat es []) + 1)

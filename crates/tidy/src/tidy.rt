@@ -1,16 +1,21 @@
 // Enter's first step: in each open segment a run of neighbouring empty entries becomes its first with the summed length, and a
-// zero sum is dropped unless a tentative entry stands before it. The entries are met once, from left to right, and written as
-// they come out; `place` is where the next one goes, never ahead of `word`, where the next one is read.
+// zero sum is dropped unless a tentative entry stands before it. In a segment that is untidy the entries are met once, from left to
+// right, and written as they come out; `place` is where the next one goes, never ahead of `word`, where the next one is read.
+use crate::untidy::is_untidy;
 use copying::copy_words;
+use meaning::END;
 use segment::kinds;
 ghost use mathlib.Core.Path.{_≡_};
-ghost use Prim.Native.Nat.{_+_, _≤_};
+ghost use mathlib.Core.Bool.{true};
+ghost use Prim.Native.Nat.{_+_, _≤_, _<_};
 ghost use lib.ListN.{length, take, drop, set};
-ghost use Rattle.meaning.specs.Words.{lengthWord};
+ghost use Rattle.meaning.specs.Words.{lengthWord, slots, upto};
+ghost use Rattle.meaning.specs.Enter.{tidy, untidy};
+ghost use Rattle.walks.specs.Runs.{flushed};
 ghost use Rattle.chain.specs.Chained.{Chained};
 ghost use Rattle.copying.specs.Written.{Written};
 ghost use Rattle.tidy.specs.OpenRun.{runOf, sumOf, runAfter, leftOf, outOf, Placed, Finished};
-ghost use Rattle.tidy.specs.Tidied.{Tidyable, TidyWritten, tidiedWords, Small, TidiedFrom};
+ghost use Rattle.tidy.specs.Tidied.{Tidyable, tidiedWords, Small, TidiedFrom};
 
 // Where the walk over a segment's entries stands. Either no run is open, and a tentative entry stands directly before or not; or
 // a run is open: the word of its first entry, the sum of its lengths so far, and whether a tentative entry stands before it.
@@ -39,7 +44,8 @@ fn put_run(
     place: usize,
 ) -> usize
     requires { ⌜ (7 ≤ width) × (word + width ≤ length (now segment)) × (place + width ≤ length (now out)) × (sum ≤ 65535) ⌝ }
-    ensures { λ r. ⌜ Written (now (out .entry)) place (set (take width (drop word (now (segment .entry)))) lengthWord sum) (now (out .exit)) r ⌝ }
+    ensures { λ r. ⌜ Written (now (out .entry)) place (set (take width (drop word (now (segment .entry)))) lengthWord sum)
+        (now (out .exit)) r ⌝ }
 {
     let next = copy_slot(segment, word, width, out, place);
     out[place + 4] = sum as u16;
@@ -101,32 +107,19 @@ fn run_after(run: RunAt, word: usize, status: u16, blocks: u16) -> RunAt
     }
 }
 
-// The end of the entries at `word`: the last run, and the marker. Each entry takes as many words out as in, so the place tells
-// whether they have become fewer; where they have not, none has changed, and no marker is wanted.
-fn finish(
-    segment: &[u16],
-    word: usize,
-    width: usize,
-    run: RunAt,
-    out: &mut [u16],
-    place: usize,
-) -> bool
-    requires { ⌜ Placed (now segment) (now out) width word place run ⌝ }
-    ensures { λ r. ⌜ Finished (runOf (now (segment .entry)) width run) word place (now (out .entry)) (now (out .exit)) r ⌝ }
+// The end of the entries: the last run, and the marker behind it.
+fn finish(segment: &[u16], width: usize, run: RunAt, out: &mut [u16], place: usize)
+    requires { ⌜ Placed (now segment) (now out) width 512 place run × (place + length (leftOf (now segment) width run) < 512) ⌝ }
+    ensures { λ _. ⌜ Finished (now (out .entry)) place (flushed (runOf (now (segment .entry)) width run)) (now (out .exit)) ⌝ }
 {
     let end = flush(segment, width, run, out, place);
-    if end < word {
-        out[end] = 2048;
-        return true;
-    }
-    false
+    out[end] = END;
 }
 
-// The entries of a segment tidied, written to `out` behind the header. The answer is whether they have become fewer; only then
-// `out` is as the segment is to be.
-fn write_tidied(segment: &[u16], width: usize, out: &mut [u16]) -> bool
-    requires { ⌜ Tidyable width (now segment) × (length (now out) ≡ 512) ⌝ }
-    ensures { λ r. ⌜ TidyWritten width (now (segment .entry)) (now (out .entry)) (now (out .exit)) r ⌝ }
+// The entries of a segment tidied, written to `out` behind the header, and the marker. They are untidy, so that they become fewer.
+fn write_tidied(segment: &[u16], width: usize, out: &mut [u16])
+    requires { ⌜ Tidyable width (now segment) × (untidy (upto (slots width (now segment))) ≡ true) × (length (now out) ≡ 512) ⌝ }
+    ensures { λ _. ⌜ Finished (now (out .entry)) 5 (tidy (upto (slots width (now (segment .entry))))) (now (out .exit)) ⌝ }
 {
     let mut left: usize = 507 / width;
     let mut word: usize = 5;
@@ -134,14 +127,15 @@ fn write_tidied(segment: &[u16], width: usize, out: &mut [u16]) -> bool
     let mut run = RunAt::Calm(false);
     while 0 < left {
         if kinds::is_marker(segment[word]) {
-            return finish(segment, word, width, run, out, place);
+            finish(segment, width, run, out, place);
+            return;
         }
         place = pass_slot(segment, word, width, run, out, place);
         run = run_after(run, word, segment[word], segment[word + 4]);
         word += width;
         left -= 1;
     }
-    finish(segment, word, width, run, out, place)
+    finish(segment, width, run, out, place);
 }
 
 // One segment tidied. Where no run is joined or dropped it keeps every word, also those after its marker.
@@ -149,11 +143,12 @@ pub fn tidy_segment(segment: &mut [u16], width: usize)
     requires { ⌜ Tidyable width (now segment) ⌝ }
     ensures { λ _. ⌜ now (segment .exit) ≡ tidiedWords width (now (segment .entry)) ⌝ }
 {
-    let mut out = [0u16; 512];
-    copy_words(&segment[..5], &mut out, 0);
-    if !write_tidied(segment, width, &mut out) {
+    if !is_untidy(segment, width) {
         return;
     }
+    let mut out = [0u16; 512];
+    copy_words(&segment[..5], &mut out, 0);
+    write_tidied(segment, width, &mut out);
     copy_words(&out, segment, 0);
 }
 

@@ -3,5 +3,8 @@ pub mod Lists
 pub mod Linked
 pub mod Scanned
 pub mod Topped
+pub mod Untidy
+pub mod Told
+pub mod Keyed
 pub mod Fits
 pub mod Tidied

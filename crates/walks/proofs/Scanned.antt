@@ -4,12 +4,11 @@
 use mathlib.Core.Path.{_≡_, refl, sym}
 use mathlib.Core.Bool.{Bool, true, false, _&&_, _||_, not}
 use mathlib.Core.List.{List, [], _∷_}
-use lib.ListN.{getD}
 use Rattle.meaning.specs.declared.Kind.{Kind}
 use Rattle.meaning.specs.declared.Kind.the-variants.{Tentative, Empty, Permanent, End, Unknown}
-use Rattle.meaning.specs.Kinds.{isTentative, isUnknown}
+use Rattle.meaning.specs.Kinds.{isUnknown}
 use Rattle.meaning.specs.Words.{Entry, kind, upto}
-use Rattle.walks.specs.Scan.{badBy, longNamed, scanBad}
+use Rattle.walks.specs.Scan.{longNamed, scanBad}
 use Rattle.meaning.specs.Sound.{any, unmarked, longName, badName, beginsEmpty, alone, badSlots}
 
 -- the faults of a slot (p, b as above; x: it is a tentative entry and no empty one follows) and of those after it (u: an unknown

@@ -15,22 +15,22 @@ use Rattle.bools.proofs.Bools.{both}
 use Rattle.meaning.specs.Kinds.{isTentative, isEnd}
 use Rattle.meaning.specs.Words.{Entry, lengthWord, kind, blocks, slotWords, segment, chunks, slots, upto, entries, total}
 use Rattle.meaning.specs.Enter.{isArea, joinTo, joined, dropZero, tidy}
-use Rattle.walks.specs.Runs.{Run, calm, within, absorb, flushed, tidyFrom, Long}
+use Rattle.walks.specs.Runs.{RunSoFar, calm, within, absorb, flushed, tidyFrom, Long}
 
 -- an entry whose length is set
-kind-set : (e : Entry) (n : ℕ) → kind (set e lengthWord n) ≡ kind e
+pub kind-set : (e : Entry) (n : ℕ) → kind (set e lengthWord n) ≡ kind e
 kind-set e n = rw (getD-set-other e lengthWord 0 n 0 (λ q. omega arith))
 
-blocks-set : (e : Entry) (n : ℕ) → lengthWord < length e → blocks (set e lengthWord n) ≡ n
+pub blocks-set : (e : Entry) (n : ℕ) → lengthWord < length e → blocks (set e lengthWord n) ≡ n
 blocks-set e n l = getD-set-same e lengthWord n 0 l
 
 -- the entry of an open run is empty and long
-abbrev Open : Run → Type 0
+abbrev Open : RunSoFar → Type 0
 Open (calm p) = Unit
 Open (within e t p) = (isArea e ≡ true) × (lengthWord < length e)
 
 -- what is to come out of a run and of joined entries after it
-meant : Run → List Entry → List Entry
+meant : RunSoFar → List Entry → List Entry
 meant (calm p) l = dropZero p l
 meant (within e t p) l = dropZero p (joinTo (set e lengthWord t) l)
 
@@ -53,18 +53,18 @@ join-run e f t (g ∷ gs) a b h k = go (isArea g) refl
     go true q = simp (kind-set, a, b, q, blocks-set, set-set, add-assoc)
     go false q = simp (kind-set, a, b, q, blocks-set, set-set)
 
-absorb-open : (r : Run) (f : Entry) → Open r → isArea f ≡ true → lengthWord < length f → Open (absorb r f)
+absorb-open : (r : RunSoFar) (f : Entry) → Open r → isArea f ≡ true → lengthWord < length f → Open (absorb r f)
 absorb-open (calm p) f o a h = (a, h)
 absorb-open (within e t p) f o a h = o
 
-absorb-meant : (r : Run) (f : Entry) (l : List Entry) → Open r → isArea f ≡ true → lengthWord < length f
+absorb-meant : (r : RunSoFar) (f : Entry) (l : List Entry) → Open r → isArea f ≡ true → lengthWord < length f
     → meant (absorb r f) l ≡ meant r (joinTo f l)
 unfolding meant
 absorb-meant (calm p) f l o a h = rw set-getD
 absorb-meant (within e t p) f l o a h = rw (join-run e f t l (o .0) a (o .1) h)
 
 -- a run ends where the entries do, or before an entry that is not empty
-flush-end : (r : Run) → Open r → flushed r ≡ meant r []
+flush-end : (r : RunSoFar) → Open r → flushed r ≡ meant r []
 unfolding meant dropZero
 flush-end (calm p) o = refl
 flush-end (within e t p) o = let a = o .0 in let h = o .1 in simp (kind-set, a, blocks-set)
@@ -74,7 +74,7 @@ kept-before : (x : Bool) (e : Entry) (l : List Entry) → cond x [] (e ∷ []) +
 kept-before true e l = refl
 kept-before false e l = refl
 
-flush-meant : (r : Run) (f : Entry) (l : List Entry) → Open r → isArea f ≡ false
+flush-meant : (r : RunSoFar) (f : Entry) (l : List Entry) → Open r → isArea f ≡ false
     → flushed r ++ f ∷ dropZero (isTentative (kind f)) l ≡ meant r (f ∷ l)
 unfolding meant dropZero
 flush-meant (calm p) f l o a = rw a
@@ -83,12 +83,12 @@ flush-meant (within e t p) f l o a =
     let h = o .1 in
     simp (kind-set, a, b, blocks-set) (kept-before (eqb t 0 && not p) (set e lengthWord t) (f ∷ dropZero (isTentative (kind f)) l))
 
-tidy-run : (r : Run) (es : List Entry) → Open r → Long es → tidyFrom r es ≡ meant r (joined es)
+tidy-run : (r : RunSoFar) (es : List Entry) → Open r → Long es → tidyFrom r es ≡ meant r (joined es)
 unfolding tidyFrom joined meant
 tidy-run r [] o h = flush-end r o
 tidy-run r (f ∷ fs) o h = go (isArea f) refl (λ q i. tidy-run q fs i (h .1))
   where
-    go : (x : Bool) → isArea f ≡ x → ((q : Run) → Open q → tidyFrom q fs ≡ meant q (joined fs))
+    go : (x : Bool) → isArea f ≡ x → ((q : RunSoFar) → Open q → tidyFrom q fs ≡ meant q (joined fs))
         → tidyFrom r (f ∷ fs) ≡ meant r (joined (f ∷ fs))
     go true a i = rw a (i (absorb r f) (absorb-open r f o a (h .0)) ∙ absorb-meant r f (joined fs) o a (h .0))
     go false a i =

@@ -10,21 +10,21 @@ use Rattle.meaning.specs.Enter.{isArea}
 
 -- Either no run is open, and p says whether a tentative entry stands directly before; or a run of neighbouring empty entries is
 -- open: its first entry e, the sum t of its lengths so far, and p as it was before the run
-pub data Run : Type 0 where
-  calm : Bool → Run
-  within : Entry → ℕ → Bool → Run
+pub data RunSoFar : Type 0 where
+  calm : Bool → RunSoFar
+  within : Entry → ℕ → Bool → RunSoFar
 
 -- an empty entry more
-abbrev pub absorb : Run → Entry → Run
+abbrev pub absorb : RunSoFar → Entry → RunSoFar
 absorb (calm p) f = within f (blocks f) p
 absorb (within e t p) f = within e (t + blocks f) p
 
 -- a run becomes its first entry with the summed length; a zero sum is dropped unless a tentative entry stands before it
-abbrev pub flushed : Run → List Entry
+abbrev pub flushed : RunSoFar → List Entry
 flushed (calm p) = []
 flushed (within e t p) = cond (eqb t 0 && not p) [] (set e lengthWord t ∷ [])
 
-unfoldable pub tidyFrom : Run → List Entry → List Entry
+unfoldable pub tidyFrom : RunSoFar → List Entry → List Entry
 tidyFrom r [] = flushed r
 tidyFrom r (f ∷ fs) =
     let a = tidyFrom (absorb r f) fs in

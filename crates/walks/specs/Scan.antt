@@ -1,11 +1,10 @@
 -- Rule 4 of one segment's slots, as a scan from left to right meets it: it looks back, by a flag.
 use mathlib.Core.Bool.{Bool, true, _||_}
 use mathlib.Core.List.{List, [], _∷_}
-use lib.ListN.{getD}
 use Rattle.meaning.specs.declared.Kind.{Kind}
 use Rattle.meaning.specs.declared.Kind.the-variants.{Tentative, Empty, Permanent, End, Unknown}
 use Rattle.meaning.specs.Kinds.{isTentative}
-use Rattle.meaning.specs.Words.{Entry, kind}
+use Rattle.meaning.specs.Words.{Entry, kind, nameOf}
 use Rattle.meaning.specs.Sound.{longName}
 
 -- whether the slots from here on are bad, by the kind of the first of them. p: a tentative entry stands directly before;
@@ -18,7 +17,7 @@ badBy Tentative p b r = p || b || r
 badBy Unknown p b r = true
 
 abbrev pub longNamed : Entry → Bool
-longNamed e = longName (getD e 1 0) (getD e 2 0) (getD e 3 0)
+longNamed e = longName (nameOf e)
 
 unfoldable pub scanBad : Bool → List Entry → Bool
 scanBad p [] = true

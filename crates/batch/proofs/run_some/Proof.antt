@@ -1,7 +1,5 @@
 -- `run_some` meets its contract: `run_part` was asked for at most eight, and of eight records that is the same first part.
 use borrow.Author.Needs.{needs}
-use Prim.Native.Nat.{ℕ}
-use native.Mathlib.Omega.{arith}
 use mathlib.Core.Path.{_≡_}
 use lib.ListN.{length}
 use Rattle.batch.proofs.AtMost.{firsts, rests}
@@ -27,9 +25,11 @@ returns c =
     let h : length (a .requests) ≡ 8 = s .good .1 .1 .0 .1 .0 .1 in
     let g : length (a .answers) ≡ 8 = s .good .1 .1 .1 .1 .0 .1 .0 .1 in
     let e = c .before .before .run-part .ensures in
-    let x = firsts (a .requests) (a .n) (c .before .before .before .before .eight .result) h (c .before .before .before .before .eight .ensures) in
-    let y = firsts (a .answers) (a .m) (c .before .before .before .eight2 .result) g (c .before .before .before .eight2 .ensures) in
-    let z = rests (a .answers) (a .m) (c .before .before .before .eight2 .result) g (c .before .before .before .eight2 .ensures) in
+    let k = c .before .before .before .before .eight in
+    let x = firsts (a .requests) (a .n) (k .result) h (k .ensures) in
+    let l = c .before .before .before .eight2 in
+    let y = firsts (a .answers) (a .m) (l .result) g (l .ensures) in
+    let z = rests (a .answers) (a .m) (l .result) g (l .ensures) in
     rw (← x, ← y, ← z) e
 
 pub run-some-spec : {M : Type 1} → statement M

@@ -1,6 +1,5 @@
 -- `full` is safe: its steps keep the length, and so does the marker's write.
 use borrow.Author.Needs.{needs}
-use native.Mathlib.Omega.{arith}
 use lib.ListN.{length-set}
 use Rattle.bench.proofs.full.Statement.{statement}
 use Rattle.bench.proofs.full.Tie as tie

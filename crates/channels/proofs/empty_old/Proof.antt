@@ -2,7 +2,7 @@
 use borrow.Author.Needs.{needs}
 use native.Mathlib.Omega.{arith}
 use Rattle.meaning.specs.Answers.{write}
-use Rattle.door.proofs.Doors.{place-inside}
+use Rattle.find.proofs.Behind.{place-inside}
 use Rattle.channels.proofs.empty_old.Statement.{statement}
 use Rattle.channels.proofs.empty_old.Tie as tie
 
@@ -10,7 +10,9 @@ enum-known-old : tie.Need-enum-known-old
 enum-known-old c = search needs
 
 make-empty-requires : tie.Need-make-empty-requires
-make-empty-requires c κs = let l = place-inside _ _ _ _ (c .before .before .old .given .1) (c .before .before .before .before .before .pre) in omega arith
+make-empty-requires c κs =
+    let l = place-inside _ _ _ _ (c .before .before .old .given .1) (c .before .before .before .before .before .pre) in
+    omega arith
 
 enum-told : tie.Need-enum-told
 enum-told c = search needs

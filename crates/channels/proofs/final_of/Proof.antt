@@ -18,13 +18,19 @@ cast-blocks : tie.Need-cast-blocks
 cast-blocks c = rw (toZ-ofZ w32 (c .before .args .size) (c .before .fits .size)) (pos-fits (c .before .args .size) (c .before .fits .size) (sym (ap (λ (y : ℤ). ltZ y (pos 0)) (toZ-ofZ w32 (c .before .args .size) (c .before .fits .size))) ∙ c .if1 .left))
 
 returns-2 : tie.Need-returns-2
-returns-2 c = let e = toZ-ofZ w32 (c .before .before .args .size) (c .before .before .fits .size) in let p : c .before .before .args .size ≡ pos (natAbs (toZ w32 (ofZ w32 (c .before .before .args .size)))) = is-pos (c .before .before .args .size) (sym (ap (λ (y : ℤ). ltZ y (pos 0)) (toZ-ofZ w32 (c .before .before .args .size) (c .before .before .fits .size))) ∙ c .before .if1 .left) ∙ ap (λ (y : ℤ). pos (natAbs y)) (sym e) in final-above _ _ (c .if2 .taken) ∙ ap (λ (y : ℤ). finalBy y (c .before .before .args .longest)) (sym p)
+returns-2 c =
+    let e = toZ-ofZ w32 (c .before .before .args .size) (c .before .before .fits .size) in
+    let p : c .before .before .args .size ≡ pos (natAbs (toZ w32 (ofZ w32 (c .before .before .args .size)))) = is-pos (c .before .before .args .size) (sym (ap (λ (y : ℤ). ltZ y (pos 0)) (toZ-ofZ w32 (c .before .before .args .size) (c .before .before .fits .size))) ∙ c .before .if1 .left) ∙ ap (λ (y : ℤ). pos (natAbs y)) (sym e) in
+    final-above _ _ (c .if2 .taken) ∙ ap (λ (y : ℤ). finalBy y (c .before .before .args .longest)) (sym p)
 
 cast-t6 : tie.Need-cast-t6
 cast-t6 c = search needs
 
 returns-3 : tie.Need-returns-3
-returns-3 c = let e = toZ-ofZ w32 (c .before .before .args .size) (c .before .before .fits .size) in let p : c .before .before .args .size ≡ pos (natAbs (toZ w32 (ofZ w32 (c .before .before .args .size)))) = is-pos (c .before .before .args .size) (sym (ap (λ (y : ℤ). ltZ y (pos 0)) (toZ-ofZ w32 (c .before .before .args .size) (c .before .before .fits .size))) ∙ c .before .if1 .left) ∙ ap (λ (y : ℤ). pos (natAbs y)) (sym e) in final-within _ _ (c .if2 .left) ∙ ap (λ (y : ℤ). finalBy y (c .before .before .args .longest)) (sym p)
+returns-3 c =
+    let e = toZ-ofZ w32 (c .before .before .args .size) (c .before .before .fits .size) in
+    let p : c .before .before .args .size ≡ pos (natAbs (toZ w32 (ofZ w32 (c .before .before .args .size)))) = is-pos (c .before .before .args .size) (sym (ap (λ (y : ℤ). ltZ y (pos 0)) (toZ-ofZ w32 (c .before .before .args .size) (c .before .before .fits .size))) ∙ c .before .if1 .left) ∙ ap (λ (y : ℤ). pos (natAbs y)) (sym e) in
+    final-within _ _ (c .if2 .left) ∙ ap (λ (y : ℤ). finalBy y (c .before .before .args .longest)) (sym p)
 
 pub final-of-spec : {M : Type 1} → statement M
 final-of-spec = tie.close (tie.spec returns cast-blocks returns-2 cast-t6 returns-3)

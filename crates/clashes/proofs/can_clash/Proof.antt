@@ -1,80 +1,85 @@
--- `can_clash` meets its contract: an arm for each kind, and the kind is that of the slot's status word. Assumes nothing.
+-- `can_clash` meets its contract: the test that holds tells the kind, and with it the key that the entry has.
 use borrow.Author.Needs.{needs}
 use native.Mathlib.Omega.{arith}
-use mathlib.Core.Path.{sym, _∙_}
+use Prim.Native.Nat.{ℕ}
+use mathlib.Core.Path.{sym, ap, _∙_}
 use denote.Ref.{now}
-use Rattle.clashes.proofs.Clashing.{can-clash-words}
+use Rattle.meaning.specs.declared.Kind.the-variants.{Tentative, Permanent}
+use Rattle.meaning.specs.declared.Name.{Name}
+use Rattle.meaning.specs.declared.Key.the-variants.{File, Open}
+use Rattle.meaning.specs.Keys.{once}
+use Rattle.walks.proofs.Told.{permanent-kind, tentative-kind}
+use Rattle.clashes.proofs.Clashing.{can-by-kind, can-not, channel-is}
 use Rattle.clashes.proofs.can_clash.Statement.{statement}
 use Rattle.clashes.proofs.can_clash.Tie as tie
 
-mul-kind-of : tie.Need-mul-kind-of
-mul-kind-of c = search needs
+mul-status : tie.Need-mul-status
+mul-status c = search needs
 
-shared-slice-read-kind-of : tie.Need-shared-slice-read-kind-of
-shared-slice-read-kind-of c = search needs
+shared-slice-read-status : tie.Need-shared-slice-read-status
+shared-slice-read-status c = search needs
 
-kind-of-requires : tie.Need-kind-of-requires
-kind-of-requires c κs = search needs
+is-permanent-requires : tie.Need-is-permanent-requires
+is-permanent-requires c κs = search needs
 
-enum-told : tie.Need-enum-told
-enum-told c = search needs
+name-at-requires : tie.Need-name-at-requires
+name-at-requires c κs = search needs
 
-enum-told-2 : tie.Need-enum-told-2
-enum-told-2 c = search needs
-
-enum-told-3 : tie.Need-enum-told-3
-enum-told-3 c = search needs
-
-enum-told-4 : tie.Need-enum-told-4
-enum-told-4 c = search needs
-
-enum-told-5 : tie.Need-enum-told-5
-enum-told-5 c = search needs
+is-once-requires : tie.Need-is-once-requires
+is-once-requires c κs = search needs
 
 returns : tie.Need-returns
 returns c =
-    let a = c .before .before .before .before .before .args in
-    can-clash-words (now (a .d)) (a .place) (a .width) (omega arith) _
-    (sym (c .enum-told .given .1) ∙ c .before .before .kind-of .ensures)
+    let a = c .before .before .before .before .before .before .args in
+    let k = permanent-kind _ (sym (c .before .before .before .is-permanent .ensures) ∙ c .before .before .if1 .taken) in
+    c .is-once .ensures
+    ∙ ap (λ (n : Name). once (File n)) (c .before .name-at .ensures)
+    ∙ can-by-kind (now (a .segment)) (a .word) (a .width) (omega arith) Permanent (sym k)
+
+is-tentative-requires : tie.Need-is-tentative-requires
+is-tentative-requires c κs = search needs
+
+add-t12 : tie.Need-add-t12
+add-t12 c = search needs
+
+mul-t13 : tie.Need-mul-t13
+mul-t13 c = search needs
+
+shared-slice-read-t15 : tie.Need-shared-slice-read-t15
+shared-slice-read-t15 c = search needs
+
+is-once-requires-2 : tie.Need-is-once-requires-2
+is-once-requires-2 c κs = search needs
 
 returns-2 : tie.Need-returns-2
 returns-2 c =
-    let a = c .before .before .before .before .before .args in
-    can-clash-words (now (a .d)) (a .place) (a .width) (omega arith) _
-    (sym (c .enum-told2 .given .1) ∙ c .before .before .kind-of .ensures)
+    let a = c .before .before .before .before .before .before .before .before .args in
+    let k = tentative-kind _ (sym (c .before .before .before .is-tentative .ensures) ∙ c .before .before .if2 .taken) in
+    c .is-once2 .ensures
+    ∙ ap (λ (x : ℕ). once (Open x)) (channel-is (now (a .segment)) (a .word) (a .width) (omega arith))
+    ∙ can-by-kind (now (a .segment)) (a .word) (a .width) (omega arith) Tentative (sym k)
 
 returns-3 : tie.Need-returns-3
 returns-3 c =
-    let a = c .before .before .before .before .before .args in
-    can-clash-words (now (a .d)) (a .place) (a .width) (omega arith) _
-    (sym (c .enum-told3 .given .1) ∙ c .before .before .kind-of .ensures)
-
-returns-4 : tie.Need-returns-4
-returns-4 c =
-    let a = c .before .before .before .before .before .args in
-    can-clash-words (now (a .d)) (a .place) (a .width) (omega arith) _
-    (sym (c .enum-told4 .given .1) ∙ c .before .before .kind-of .ensures)
-
-returns-5 : tie.Need-returns-5
-returns-5 c =
-    let a = c .before .before .before .before .before .args in
-    can-clash-words (now (a .d)) (a .place) (a .width) (omega arith) _
-    (sym (c .enum-told5 .given .1) ∙ c .before .before .kind-of .ensures)
+    let a = c .before .before .before .before .before .before .args in
+    let p = sym (c .before .before .before .is-permanent .ensures) ∙ c .before .before .if1 .left in
+    let t = sym (c .before .is-tentative .ensures) ∙ c .if2 .left in
+    can-not (now (a .segment)) (a .word) (a .width) (omega arith) p t
 
 pub can-clash-spec : {M : Type 1} → statement M
 can-clash-spec =
     tie.close
     (tie.spec
-    mul-kind-of
-    shared-slice-read-kind-of
-    kind-of-requires
-    enum-told
-    enum-told-2
-    enum-told-3
-    enum-told-4
-    enum-told-5
+    mul-status
+    shared-slice-read-status
+    is-permanent-requires
+    name-at-requires
+    is-once-requires
     returns
+    is-tentative-requires
+    add-t12
+    mul-t13
+    shared-slice-read-t15
+    is-once-requires-2
     returns-2
-    returns-3
-    returns-4
-    returns-5)
+    returns-3)

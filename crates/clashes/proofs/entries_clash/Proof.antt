@@ -1,11 +1,12 @@
 -- `entries_clash` meets its contract: the entries listed are those that can clash, and leaving out the others changes no clash.
 -- Assumes nothing.
 use borrow.Author.Needs.{needs}
-use mathlib.Core.Path.{ap, _∙_}
+use mathlib.Core.Path.{refl, ap, _∙_}
 use denote.Ref.{now}
 use Rattle.meaning.specs.Words.{allEntries}
 use Rattle.meaning.specs.Sound.{clashes, bad6}
 use Rattle.clashes.proofs.Clashing.{clashes-candidates}
+use Rattle.clashes.proofs.Placed.{listed-places, listed-seen}
 use Rattle.clashes.proofs.entries_clash.Statement.{statement}
 use Rattle.clashes.proofs.entries_clash.Tie as tie
 
@@ -21,14 +22,14 @@ add-width c = search needs
 list-chain-requires : tie.Need-list-chain-requires
 list-chain-requires c κs = search needs
 
-listed-clash-requires : tie.Need-listed-clash-requires
-listed-clash-requires c κs = search needs
+some-clash-requires : tie.Need-some-clash-requires
+some-clash-requires c κs = listed-places (c .before .before .before .before .before .pre) refl (c .before .list-chain .ensures)
 
 returns : tie.Need-returns
 unfolding bad6
 returns c =
-    c .listed-clash .ensures
-    ∙ ap clashes (c .before .before .list-chain .ensures .same)
+    c .some-clash .ensures
+    ∙ ap clashes (listed-seen (c .before .before .before .before .before .before .pre) refl (c .before .before .list-chain .ensures))
     ∙ clashes-candidates (allEntries (now (c .before .before .before .before .before .before .args .d)))
 
 pub entries-clash-spec : {M : Type 1} → statement M
@@ -39,5 +40,5 @@ entries-clash-spec =
     cast-width
     add-width
     list-chain-requires
-    listed-clash-requires
+    some-clash-requires
     returns)

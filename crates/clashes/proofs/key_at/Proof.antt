@@ -1,8 +1,13 @@
--- `key_at` meets its contract: the test is that of the kind, and the words read are the slot's own. Assumes nothing.
+-- `key_at` meets its contract: a listed entry that is not tentative is permanent, and the words read are the slot's own.
+-- Assumes nothing.
 use borrow.Author.Needs.{needs}
 use native.Mathlib.Omega.{arith}
+use mathlib.Core.Path.{sym, ap, _∙_}
+use mathlib.Core.Option.{some}
 use denote.Ref.{now}
-use Rattle.clashes.proofs.Clashing.{open-words, file-words}
+use Rattle.meaning.specs.declared.Name.{Name}
+use Rattle.meaning.specs.declared.Key.the-variants.{File}
+use Rattle.clashes.proofs.Clashing.{open-key, file-key}
 use Rattle.clashes.proofs.key_at.Statement.{statement}
 use Rattle.clashes.proofs.key_at.Tie as tie
 
@@ -27,40 +32,17 @@ shared-slice-read-t11 c = search needs
 returns : tie.Need-returns
 returns c =
     let a = c .before .before .before .before .before .args in
-    open-words (now (a .d)) (a .place) (a .width) (omega arith) _ (c .before .before .is-tentative .ensures) (c .before .if1 .taken)
+    open-key (now (a .d)) (a .place) (a .width) (omega arith) _ (c .before .before .is-tentative .ensures) (c .before .if1 .taken)
 
-add-t5 : tie.Need-add-t5
-add-t5 c = search needs
-
-mul-t12 : tie.Need-mul-t12
-mul-t12 c = search needs
-
-shared-slice-read-t7 : tie.Need-shared-slice-read-t7
-shared-slice-read-t7 c = search needs
-
-add-t14 : tie.Need-add-t14
-add-t14 c = search needs
-
-mul-t15 : tie.Need-mul-t15
-mul-t15 c = search needs
-
-shared-slice-read-t17 : tie.Need-shared-slice-read-t17
-shared-slice-read-t17 c = search needs
-
-add-t18 : tie.Need-add-t18
-add-t18 c = search needs
-
-mul-t19 : tie.Need-mul-t19
-mul-t19 c = search needs
-
-shared-slice-read-t21 : tie.Need-shared-slice-read-t21
-shared-slice-read-t21 c = search needs
+name-at-requires : tie.Need-name-at-requires
+name-at-requires c κs = search needs
 
 returns-2 : tie.Need-returns-2
 returns-2 c =
-    let a = c .before .before .before .before .before .before .before .args in
-    file-words (now (a .d)) (a .place) (a .width) (omega arith) _ (c .before .before .before .before .is-tentative .ensures)
-    (c .before .before .before .if1 .left)
+    let a = c .before .before .before .before .before .args in
+    file-key (now (a .d)) (a .place) (a .width) (omega arith) _ (c .before .before .is-tentative .ensures) (c .before .if1 .left)
+    (c .before .before .before .before .before .pre .1 .can)
+    ∙ ap (λ (n : Name). some (File n)) (sym (c .name-at .ensures))
 
 pub key-at-spec : {M : Type 1} → statement M
 key-at-spec =
@@ -73,13 +55,5 @@ key-at-spec =
     mul-t9
     shared-slice-read-t11
     returns
-    add-t5
-    mul-t12
-    shared-slice-read-t7
-    add-t14
-    mul-t15
-    shared-slice-read-t17
-    add-t18
-    mul-t19
-    shared-slice-read-t21
+    name-at-requires
     returns-2)

@@ -1,5 +1,5 @@
 -- `list_entry` meets its contract: the place is written after those listed (`listed-entry`), or the list stays as it is
--- (`passed-entry`). The list has room, since it is shorter than the slots of all segments. Assumes nothing.
+-- (`passed-entry`). Assumes nothing.
 use borrow.Author.Needs.{needs}
 use mathlib.Core.Path.{sym, _∙_}
 use Rattle.clashes.proofs.Listing.{listed-entry, passed-entry}
@@ -24,12 +24,12 @@ add-result c = search needs
 returns : tie.Need-returns
 returns c =
     let s = c .before .before .before in
-    listed-entry (s .pre .0) (s .args .place) (s .pre .1) (s .pre .2) (sym (c .before .can-clash .ensures) ∙ c .if1 .taken)
+    listed-entry (s .args .width) (s .args .place) _ (s .pre .3) (s .pre .4) (sym (c .before .can-clash .ensures) ∙ c .if1 .taken)
 
 returns-2 : tie.Need-returns-2
 returns-2 c =
     let s = c .before .before .before in
-    passed-entry (s .pre .0) (s .args .place) (sym (c .before .can-clash .ensures) ∙ c .if1 .left)
+    passed-entry (s .args .width) (s .args .place) _ (s .pre .3) (sym (c .before .can-clash .ensures) ∙ c .if1 .left)
 
 pub list-entry-spec : {M : Type 1} → statement M
 list-entry-spec =

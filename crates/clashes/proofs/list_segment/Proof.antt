@@ -1,41 +1,30 @@
--- `list_segment` meets its contract. The loop's invariant is `Slots`: the entries listed, and those ahead in the segment that can
--- clash, are those listed before and all of the segment's. The measure is the slots left. Assumes nothing.
+-- `list_segment` meets its contract. The loop's invariant is `Slots`: the places listed, and those of the entries ahead in the segment
+-- that can clash, are those listed before and all of the segment's. The measure is the slots left. Assumes nothing.
 use native.Mathlib.Omega.{arith}
 use mathlib.Core.Path.{sym, _∙_}
-use denote.Ref.{now}
 use borrow.Author.Needs.{needs}
+use denote.Ref.{now}
 use Prim.Native.Nat.{_+_, _≤_}
-use lib.ListN.{length}
 use Rattle.clashes.proofs.Listing.{Slots, slots-start, slots-fit, slots-marker, slots-next, slots-done}
 use Rattle.clashes.proofs.list_segment.Statement.{statement}
 use Rattle.clashes.proofs.list_segment.Tie as tie
 
 abbrev Inv-loop : tie.InvT-loop
-Inv-loop d number width places₀ listed left₀ place₀ count₀ places left place count =
-    Slots d width number places₀ listed places count left place
+Inv-loop segment base width places₀ listed left₀ word₀ count₀ places left word count =
+    Slots segment base width places₀ listed places count left word
 
 abbrev μ-loop : tie.MeasureT-loop
-μ-loop d number width places₀ listed left₀ place₀ count₀ places left place count = left
+μ-loop segment base width places₀ listed left₀ word₀ count₀ places left word count = left
 
--- the slot at hand lies in the directory
-slot-fits : (c : tie.In-loop Inv-loop μ-loop)
-    → let a = c .before .before .before .args in c .before .loop .place + a .width ≤ length (now (a .d))
+-- the slot at hand lies in the segment
+slot-fits : (c : tie.In-loop Inv-loop μ-loop) → c .before .loop .word + c .before .before .before .args .width ≤ 512
 slot-fits c = omega (arith, slots-fit (c .before .loop .inv) (c .loop-test .taken))
 
 div-left : tie.Need-div-left Inv-loop μ-loop
 div-left c = search needs
 
-sub-place : tie.Need-sub-place Inv-loop μ-loop
-sub-place c = search needs
-
-mul-place : tie.Need-mul-place Inv-loop μ-loop
-mul-place c = search needs
-
-add-place : tie.Need-add-place Inv-loop μ-loop
-add-place c = search needs
-
 loop-holds : tie.Need-loop-holds Inv-loop μ-loop
-loop-holds c = let q = c .before .pre in slots-start (q .0) (q .1) (q .2) (q .3) (q .4)
+loop-holds c = let s = c .before in slots-start (now (s .args .segment)) (s .args .base) (s .args .width) (s .pre .2) (s .pre .3)
 
 mul-is-marker : tie.Need-mul-is-marker Inv-loop μ-loop
 mul-is-marker c = omega (arith, slot-fits c)
@@ -51,14 +40,18 @@ returns c =
     let s = c .before .before .before in
     slots-marker (s .before .loop .inv) (s .loop-test .taken) (sym (c .before .is-marker .ensures) ∙ c .if1 .taken)
 
+add-list-entry : tie.Need-add-list-entry Inv-loop μ-loop
+add-list-entry c = omega (arith, slot-fits (c .before .before .before))
+
 list-entry-requires : tie.Need-list-entry-requires Inv-loop μ-loop
 list-entry-requires c κs =
     let s = c .before .before .before .before in
     let l = s .before .loop .inv in
-    (l .places, omega (arith, l .few, l .start, s .loop-test .taken), slot-fits s)
+    let q = s .before .before .before .pre in
+    (l .wide, omega (arith, slot-fits s), omega (arith, slot-fits s), l .long, omega (arith, l .few))
 
-add-place-2 : tie.Need-add-place-2 Inv-loop μ-loop
-add-place-2 c = let s = c .before .before .before .before .before in omega (arith, slot-fits s, s .before .before .before .pre .3 .short)
+add-word : tie.Need-add-word Inv-loop μ-loop
+add-word c = omega (arith, slot-fits (c .before .before .before .before .before))
 
 sub-left : tie.Need-sub-left Inv-loop μ-loop
 sub-left c = search needs
@@ -82,16 +75,14 @@ list-segment-spec =
     Inv-loop
     μ-loop
     div-left
-    sub-place
-    mul-place
-    add-place
     loop-holds
     mul-is-marker
     shared-slice-read-is-marker
     is-marker-requires
     returns
+    add-list-entry
     list-entry-requires
-    add-place-2
+    add-word
     sub-left
     loop-less
     loop-again

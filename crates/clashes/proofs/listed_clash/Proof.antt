@@ -5,7 +5,7 @@ use denote.Ref.{now}
 use borrow.Author.Needs.{needs}
 use Prim.Native.Nat.{ℕ, _+_, _-_}
 use lib.ListN.{getD, length-replicate, getD-replicate}
-use Rattle.clashes.specs.Candidates.{Candidate}
+use Rattle.clashes.specs.Buckets.{Candidate}
 use Rattle.clashes.proofs.Buckets.{Table, table-start, table-first, table-found, table-more, table-done}
 use Rattle.clashes.proofs.listed_clash.Statement.{statement}
 use Rattle.clashes.proofs.listed_clash.Tie as tie
@@ -27,8 +27,8 @@ at-hand c =
 
 loop-holds : tie.Need-loop-holds Inv-loop μ-loop
 loop-holds c =
-    table-start (length-replicate {A = ℕ} 1021 0) (length-replicate {A = ℕ} 2233 0)
-    (λ b s. getD-replicate {A = ℕ} 1021 b 0 0 s)
+    table-start (length-replicate {A = ℕ} 8192 0) (length-replicate {A = ℕ} 2233 0)
+    (λ b s. getD-replicate {A = ℕ} 8192 b 0 0 s)
 
 add-number : tie.Need-add-number Inv-loop μ-loop
 add-number c = search needs
@@ -46,7 +46,7 @@ cast-place : tie.Need-cast-place Inv-loop μ-loop
 cast-place c = omega (arith, at-hand (c .before) .fits, c .before .before .before .before .pre .short)
 
 key-at-requires : tie.Need-key-at-requires Inv-loop μ-loop
-key-at-requires c κs = (c .before .before .before .before .pre .wide, at-hand (c .before) .fits)
+key-at-requires c κs = (c .before .before .before .before .pre .wide, at-hand (c .before))
 
 bucket-of-requires : tie.Need-bucket-of-requires Inv-loop μ-loop
 bucket-of-requires c κs = search needs
@@ -68,7 +68,8 @@ met-requires c κs =
 returns : tie.Need-returns Inv-loop μ-loop
 returns c =
     let s = c .before .before .before .before .before .before in
-    table-found (s .before .before .before .pre) (s .before .loop .passed) (s .loop-test .taken) (c .before .before .before .before .key-at .ensures)
+    table-found (s .before .before .before .pre) (s .before .loop .passed) (s .loop-test .taken)
+    (c .before .before .before .before .key-at .ensures)
     (c .before .met .ensures) (c .if1 .taken)
 
 mul-earlier : tie.Need-mul-earlier Inv-loop μ-loop
@@ -92,7 +93,8 @@ loop-less c = search needs
 loop-again : tie.Need-loop-again Inv-loop μ-loop
 loop-again c =
     let s = c .before .before .before .before .before .before in
-    table-more (s .before .before .before .pre) (s .before .loop .passed) (s .loop-test .taken) (c .before .before .before .before .key-at .ensures)
+    table-more (s .before .before .before .pre) (s .before .loop .passed) (s .loop-test .taken)
+    (c .before .before .before .before .key-at .ensures)
     (s .before .loop .inv) (c .before .before .before .bucket-of .ensures) (c .before .met .ensures) (c .if1 .left)
 
 returns-2 : tie.Need-returns-2 Inv-loop μ-loop

@@ -5,7 +5,7 @@ use denote.Ref.{now}
 use borrow.Author.Needs.{needs}
 use Prim.Native.Nat.{_-_, _<_}
 use lib.ListN.{getD}
-use Rattle.clashes.specs.Candidates.{Candidate}
+use Rattle.clashes.specs.Buckets.{Candidate}
 use Rattle.clashes.proofs.Buckets.{Walk, walk-start, walk-hit, walk-next, walk-less, walk-end}
 use Rattle.clashes.proofs.met.Statement.{statement}
 use Rattle.clashes.proofs.met.Tie as tie

@@ -45,7 +45,8 @@ loop-less c = search needs
 
 loop-again : tie.Need-loop-again Inv-loop μ-loop
 loop-again c =
-    let a = c .before .before .before .args in
+    let c1 = c .before .before .before in
+    let a = c1 .args in
     let l = c .before .before .loop in
     let t = c .before .loop-test in (
       omega arith,

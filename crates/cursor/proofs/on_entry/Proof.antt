@@ -1,77 +1,50 @@
--- `on_entry` meets its contract: a slot that there is lies in the directory (`place-fits`), and its first word is the status
--- (`word-here0`).
+-- `on_entry` meets its contract: past the last slot there is no entry, and the word read is the slot's status (`stands-by`).
 use borrow.Author.Needs.{needs}
-use native.Mathlib.Omega.{arith}
-use borrow.Author.Tests.{lt-leb, le-leb}
+use borrow.Author.Tests.{lt-leb}
+use mathlib.Core.Path.{ap, _∙_}
+use Prim.Native.Nat.{ℕ}
+use lib.ListN.{getD}
 use denote.Ref.{now}
-use Prim.Native.Nat.{_≤_, _<_}
-use Rattle.meaning.specs.Words.{slotWords, slotCount}
-use Rattle.cursor.specs.Cursor.{onEntry}
-use Rattle.cursor.proofs.Stepping.{word-here0, place-fits}
+use Rattle.meaning.specs.Kinds.{kindOf, isEnd}
+use Rattle.meaning.specs.Words.{slotCount}
+use Rattle.cursor.specs.Cursor.{isEntry}
+use Rattle.cursor.proofs.Stepping.{stands-by}
 use Rattle.cursor.proofs.on_entry.Statement.{statement}
 use Rattle.cursor.proofs.on_entry.Tie as tie
-
-width-of-requires : tie.Need-width-of-requires
-width-of-requires c κs = search needs
 
 div-if1 : tie.Need-div-if1
 div-if1 c = search needs
 
 returns : tie.Need-returns
-unfolding onEntry
-returns c =
-    let d = now (c .before .before .before .before .args .d) in
-    let k = c .before .before .before .before .args .cursor in
-    let m : slotCount (slotWords d) < k .slot = rw (c .before .before .width-of .ensures) at (c .if1 .taken) in
-    rw (lt-leb (k .slot) (slotCount (slotWords d)) m)
+unfolding isEntry
+returns c = let a = c .before .before .args in rw (lt-leb (a .slot) (slotCount (a .width)) (c .if1 .taken))
 
-place-of-requires : tie.Need-place-of-requires
-place-of-requires c κs = search needs
+word-of-requires : tie.Need-word-of-requires
+word-of-requires c κs = search needs
 
 mul-is-marker : tie.Need-mul-is-marker
-mul-is-marker c =
-    let d = now (c .before .before .before .before .before .args .d) in
-    let k = c .before .before .before .before .before .args .cursor in
-    let m : k .slot ≤ slotCount (slotWords d) = rw (c .before .before .before .width-of .ensures) at (c .before .if1 .left) in
-    let f = place-fits d k (c .before .before .before .before .before .pre) m in
-    let e = c .place-of .ensures in
-    omega arith
+mul-is-marker c = search needs
 
 shared-slice-read-is-marker : tie.Need-shared-slice-read-is-marker
-shared-slice-read-is-marker c =
-    let d = now (c .before .before .before .before .before .before .args .d) in
-    let k = c .before .before .before .before .before .before .args .cursor in
-    let m : k .slot ≤ slotCount (slotWords d) = rw (c .before .before .before .before .width-of .ensures) at
-    (c .before .before .if1 .left) in
-    let f = place-fits d k (c .before .before .before .before .before .before .pre) m in
-    let e = c .before .place-of .ensures in
-    omega arith
+shared-slice-read-is-marker c = search needs
 
 is-marker-requires : tie.Need-is-marker-requires
 is-marker-requires c κs = search needs
 
 returns-2 : tie.Need-returns-2
-unfolding onEntry
 returns-2 c =
-    let d = now (c .before .before .before .before .before .before .before .args .d) in
-    let k = c .before .before .before .before .before .before .before .args .cursor in
-    let m : k .slot ≤ slotCount (slotWords d) = rw (c .before .before .before .before .before .width-of .ensures) at
-    (c .before .before .before .if1 .left) in
-    rw (
-      le-leb (k .slot) (slotCount (slotWords d)) m,
-      word-here0 d k (c .before .before .before .before .before .before .before .pre) m,
-      ← c .before .before .place-of .ensures,
-      c .is-marker .ensures,
-    )
+    let s = c .before .before .before .before .before in
+    let g = now (s .args .segment) in
+    stands-by (s .args .width) g (s .args .slot) _ (s .pre .1) (s .pre .2) (c .before .before .before .if1 .left)
+    (c .is-marker .ensures ∙ ap (λ (p : ℕ). isEnd (kindOf (getD g p 0))) (c .before .before .word-of .ensures .0))
 
 pub on-entry-spec : {M : Type 1} → statement M
 on-entry-spec =
     tie.close
     (tie.spec
-    width-of-requires
     div-if1
     returns
-    place-of-requires
+    word-of-requires
     mul-is-marker
     shared-slice-read-is-marker
     is-marker-requires

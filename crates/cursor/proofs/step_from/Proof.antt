@@ -1,21 +1,33 @@
 -- `step_from` meets its contract. The loop's invariant is `Stepping`: the rows from here on, of the segments still to be asked, are the
 -- rows from the cursor on. A turn ends at an entry or at a link that names no segment, or goes on at the segment that the link names.
 use native.Mathlib.Omega.{arith}
-use mathlib.Core.Path.{sym, _∙_}
+use mathlib.Core.Path.{_≡_, sym, _∙_}
 use borrow.Author.Tests.{not-true, not-false}
-use denote.Ref.{now}
-use Prim.Native.Nat.{_+_, _-_, _*_}
 use borrow.Author.Needs.{needs}
-use Rattle.cursor.proofs.Stepping.{segment-is, entry-slot, Stepping, steps}
+use denote.Ref.{now}
+use Prim.Native.Nat.{_+_}
+use lib.ListN.{length-take, length-drop}
+use Rattle.chain.proofs.Links.{base}
+use Rattle.cursor.specs.Cursor.{onEntry}
+use Rattle.cursor.proofs.Stepping.{segment-is, standing, entry-slot, entry-part, row-part, Stepping, steps}
 use Rattle.cursor.proofs.Stepping.{at-entry, at-last, at-none, at-link, at-no-slot}
 use Rattle.cursor.proofs.step_from.Statement.{statement}
 use Rattle.cursor.proofs.step_from.Tie as tie
 
 abbrev Inv-loop : tie.InvT-loop
-Inv-loop d here₀ left₀ here left = Stepping d here₀ left here
+Inv-loop d width here₀ left₀ here left = Stepping d here₀ left here
 
 abbrev μ-loop : tie.MeasureT-loop
-μ-loop d here₀ left₀ here left = left
+μ-loop d width here₀ left₀ here left = left
+
+-- whether an entry stands at the cursor: what the call says of the part, said of the directory
+entry-here : (c : tie.After-on-entry Inv-loop μ-loop)
+    → let s = c .before .before .before in
+    c .on-entry .result ≡ onEntry (now (s .before .before .before .before .before .before .args .d)) (s .before .loop .here)
+entry-here c =
+    let s = c .before .before .before in
+    entry-part (now (s .before .before .before .before .before .before .args .d)) (s .before .loop .here) _
+    (s .before .before .width-of .ensures) (c .on-entry .ensures)
 
 is-inside-requires : tie.Need-is-inside-requires Inv-loop μ-loop
 is-inside-requires c κs = search needs
@@ -25,60 +37,103 @@ returns c =
     at-no-slot (now (c .before .before .before .args .d)) (c .before .before .before .args .cursor)
     (sym (c .before .is-inside .ensures) ∙ not-true _ (c .if1 .taken))
 
+width-of-requires : tie.Need-width-of-requires Inv-loop μ-loop
+width-of-requires c κs =
+    let x = standing (now (c .before .before .before .args .d)) (c .before .before .before .args .cursor)
+    (sym (c .before .is-inside .ensures) ∙ not-false _ (c .if1 .left)) in
+    omega arith
+
 loop-holds : tie.Need-loop-holds Inv-loop μ-loop
 loop-holds c =
-    steps (now (c .before .before .before .args .d)) (c .before .before .before .args .cursor)
-    (sym (c .before .is-inside .ensures) ∙ not-false _ (c .if1 .left))
+    steps (now (c .before .before .before .before .args .d)) (c .before .before .before .before .args .cursor)
+    (sym (c .before .before .is-inside .ensures) ∙ not-false _ (c .before .if1 .left))
+
+sub-base : tie.Need-sub-base Inv-loop μ-loop
+sub-base c = let s = c .before .before .loop .inv .stands in omega arith
+
+mul-base : tie.Need-mul-base Inv-loop μ-loop
+mul-base c = let s = c .before .before .loop .inv .stands in omega arith
+
+add-on-entry : tie.Need-add-on-entry Inv-loop μ-loop
+add-on-entry c = let s = c .before .before .loop .inv .stands in omega arith
+
+mul-on-entry : tie.Need-mul-on-entry Inv-loop μ-loop
+mul-on-entry c = let s = c .before .before .loop .inv .stands in omega arith
+
+sub-on-entry : tie.Need-sub-on-entry Inv-loop μ-loop
+sub-on-entry c = let s = c .before .before .loop .inv .stands in omega arith
+
+part-on-entry-start : tie.Need-part-on-entry-start Inv-loop μ-loop
+part-on-entry-start c = let s = c .before .before .loop .inv .stands in omega arith
+
+part-on-entry-end : tie.Need-part-on-entry-end Inv-loop μ-loop
+part-on-entry-end c = let s = c .before .before .loop .inv .stands in omega arith
 
 on-entry-requires : tie.Need-on-entry-requires Inv-loop μ-loop
-on-entry-requires c κs = c .before .loop .inv .stands
+on-entry-requires c κs =
+    let s = c .before .before .before .loop .inv .stands in
+    let w = c .before .before .before .before .width-of .ensures in
+    (simp (length-take, length-drop) (omega arith), omega arith, s .some)
+
+add-see-entry : tie.Need-add-see-entry Inv-loop μ-loop
+add-see-entry c = let s = c .before .before .before .before .before .loop .inv .stands in omega arith
+
+mul-see-entry : tie.Need-mul-see-entry Inv-loop μ-loop
+mul-see-entry c = let s = c .before .before .before .before .before .loop .inv .stands in omega arith
+
+sub-see-entry : tie.Need-sub-see-entry Inv-loop μ-loop
+sub-see-entry c = let s = c .before .before .before .before .before .loop .inv .stands in omega arith
+
+part-see-entry-start : tie.Need-part-see-entry-start Inv-loop μ-loop
+part-see-entry-start c = let s = c .before .before .before .before .before .loop .inv .stands in omega arith
+
+part-see-entry-end : tie.Need-part-see-entry-end Inv-loop μ-loop
+part-see-entry-end c = let s = c .before .before .before .before .before .loop .inv .stands in omega arith
 
 see-entry-requires : tie.Need-see-entry-requires Inv-loop μ-loop
 see-entry-requires c κs =
-    let d = now (c .before .before .before .before .before .before .before .args .d) in
-    let l = c .before .before .before .loop in
-    (l .inv .stands, entry-slot d (l .here) (l .inv .stands) (sym (c .before .on-entry .ensures) ∙ c .if2 .taken))
+    let s = c .before .before .before .before .before in
+    let l = s .before .loop in
+    let x = l .inv .stands in
+    let w = s .before .before .width-of .ensures in
+    let m = entry-slot (now (s .before .before .before .before .before .before .args .d)) (l .here) x
+    (sym (entry-here (c .before .before)) ∙ c .before .if2 .taken) in
+    (simp (length-take, length-drop) (omega arith), omega arith, omega arith, x .some, rw w m, x .small)
 
 returns-2 : tie.Need-returns-2 Inv-loop μ-loop
 returns-2 c =
-    c .see-entry .ensures ∙ at-entry (c .before .before .before .before .loop .inv)
-    (c .before .before .before .loop-test .taken) (sym (c .before .before .on-entry .ensures) ∙ c .before .if2 .taken)
-
-sub-link : tie.Need-sub-link Inv-loop μ-loop
-sub-link c = let s = c .before .before .before .before .loop .inv .stands in omega arith
-
-mul-link : tie.Need-mul-link Inv-loop μ-loop
-mul-link c = let s = c .before .before .before .before .loop .inv .stands in omega arith
+    let s = c .before .before .before .before .before .before in
+    let l = s .before .loop in
+    row-part (now (s .before .before .before .before .before .before .args .d)) (l .here) _ (s .before .before .width-of .ensures)
+    (c .see-entry .ensures)
+    ∙ at-entry (l .inv) (s .loop-test .taken) (sym (entry-here (c .before .before .before)) ∙ c .before .before .if2 .taken)
 
 add-link : tie.Need-add-link Inv-loop μ-loop
-add-link c = let s = c .before .before .before .before .loop .inv .stands in omega arith
+add-link c = let s = c .before .before .before .before .before .loop .inv .stands in omega arith
 
-mul-link-2 : tie.Need-mul-link-2 Inv-loop μ-loop
-mul-link-2 c = let s = c .before .before .before .before .loop .inv .stands in omega arith
+mul-link : tie.Need-mul-link Inv-loop μ-loop
+mul-link c = let s = c .before .before .before .before .before .loop .inv .stands in omega arith
 
 shared-slice-read-link : tie.Need-shared-slice-read-link Inv-loop μ-loop
-shared-slice-read-link c = let s = c .before .before .before .before .before .loop .inv .stands in omega arith
+shared-slice-read-link c = let s = c .before .before .before .before .before .before .loop .inv .stands in omega arith
 
 cast-link : tie.Need-cast-link Inv-loop μ-loop
-cast-link c =
-    let l = c .before .before .before .before .before .loop in
-    omega (arith, c .shared-slice-known2 .given (512 * (l .here .seg - 1) + 1))
+cast-link c = omega (arith, c .shared-slice-known2 .given (base (c .before .before .before .before .before .before .loop .here .seg) + 1))
 
 is-segment-requires : tie.Need-is-segment-requires Inv-loop μ-loop
 is-segment-requires c κs = search needs
 
 returns-3 : tie.Need-returns-3 Inv-loop μ-loop
 returns-3 c =
-    let none = sym (c .before .before .before .before .before .on-entry .ensures) ∙ c .before .before .before .before .if2 .left
-    in
-    at-last (c .before .before .before .before .before .before .before .loop .inv)
-    (c .before .before .before .before .before .before .loop-test .taken) none
+    let s = c .before .before .before .before .before .before .before in
+    at-last (s .before .loop .inv) (s .loop-test .taken)
+    (sym (entry-here (c .before .before .before .before)) ∙ c .before .before .before .if2 .left)
     (sym (c .before .is-segment .ensures) ∙ not-true _ (c .if3 .taken))
 
 first-slot-requires : tie.Need-first-slot-requires Inv-loop μ-loop
 first-slot-requires c κs =
-    segment-is (now (c .before .before .before .before .before .before .before .before .before .before .before .args .d)) _
-    (sym (c .before .is-segment .ensures) ∙ not-false _ (c .if3 .left))
+    segment-is (now (c .before .before .before .before .before .before .before .before .before .before .before .before .before .args .d))
+    _ (sym (c .before .is-segment .ensures) ∙ not-false _ (c .if3 .left))
 
 sub-left : tie.Need-sub-left Inv-loop μ-loop
 sub-left c = search needs
@@ -88,10 +143,9 @@ loop-less c = search needs
 
 loop-again : tie.Need-loop-again Inv-loop μ-loop
 loop-again c =
-    let none = sym (c .before .before .before .before .before .before .on-entry .ensures) ∙ c .before .before .before .before
-    .before .if2 .left in
-    at-link (c .first-slot .result) (c .before .before .before .before .before .before .before .before .loop .inv)
-    (c .before .before .before .before .before .before .before .loop-test .taken) none
+    let s = c .before .before .before .before .before .before .before .before in
+    at-link (c .first-slot .result) (s .before .loop .inv) (s .loop-test .taken)
+    (sym (entry-here (c .before .before .before .before .before)) ∙ c .before .before .before .before .if2 .left)
     (sym (c .before .before .is-segment .ensures) ∙ not-false _ (c .before .if3 .left)) (c .first-slot .ensures)
 
 returns-4 : tie.Need-returns-4 Inv-loop μ-loop
@@ -105,14 +159,25 @@ step-from-spec =
     μ-loop
     is-inside-requires
     returns
+    width-of-requires
     loop-holds
+    sub-base
+    mul-base
+    add-on-entry
+    mul-on-entry
+    sub-on-entry
+    part-on-entry-start
+    part-on-entry-end
     on-entry-requires
+    add-see-entry
+    mul-see-entry
+    sub-see-entry
+    part-see-entry-start
+    part-see-entry-end
     see-entry-requires
     returns-2
-    sub-link
-    mul-link
     add-link
-    mul-link-2
+    mul-link
     shared-slice-read-link
     cast-link
     is-segment-requires

@@ -1,7 +1,7 @@
 -- `date_word` meets its contract: a calendar day's month, day and year are small enough for the sum to fit (`calendar-parts`).
 use native.Mathlib.Omega.{arith}
 use borrow.Author.Needs.{needs}
-use Rattle.dates.specs.Dates.{dateWord, years}
+use Rattle.dates.specs.Dates.{packedDay, years}
 use Rattle.dates.proofs.Days.{calendar-parts}
 use Rattle.dates.proofs.date_word.Statement.{statement}
 use Rattle.dates.proofs.date_word.Tie as tie
@@ -27,7 +27,7 @@ unfolding years
 add-result-2 c = let p = calendar-parts _ _ _ (c .pre) in let a = p .from in let b = p .to in omega arith
 
 returns : tie.Need-returns
-unfolding dateWord years
+unfolding packedDay years
 returns c = search needs
 
 pub date-word-spec : {M : Type 1} → statement M

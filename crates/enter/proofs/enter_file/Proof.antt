@@ -1,86 +1,116 @@
--- `enter_file` meets its contract: the survey of the tidied copy decides the last two refusals (`short`, `slotless`), and else the
--- new entry is placed (`roomy`).
+-- `enter_file` meets its contract: by the survey's two tests the outcome is refusal 11, refusal 12, or what the placing gives.
 use borrow.Author.Needs.{needs}
-use mathlib.Core.Path.{_≡_, sym, ap, _∙_}
-use borrow.Author.Tests.{not-true, not-false}
+use mathlib.Core.Path.{sym, ap, _∙_}
 use denote.Ref.{now}
-use Rattle.meaning.specs.Words.{chain}
+use borrow.Author.Tests.{not-true, not-false}
 use Rattle.meaning.specs.Answers.{refuse}
-use Rattle.meaning.specs.Enter.{tidied}
-use Rattle.laws.proofs.TidiedSound.{tidied-sound}
-use Rattle.chain.proofs.Chains.{fault-chained}
-use Rattle.enter.proofs.Copied.{copy-long, part-long}
+use Rattle.enter.proofs.Ready.{tidyable}
 use Rattle.enter.proofs.Placing.{answer-of, words-of}
-use Rattle.enter.proofs.Surveyed.{short, slotless, roomy}
+use Rattle.enter.proofs.Surveyed.{short, slotless, fits, roomy}
 use Rattle.enter.proofs.enter_file.Statement.{statement}
 use Rattle.enter.proofs.enter_file.Tie as tie
-
-tidied-copy-requires : tie.Need-tidied-copy-requires
-tidied-copy-requires c κs = search needs
-
-array-share-prefix-copy : tie.Need-array-share-prefix-copy
-array-share-prefix-copy c = let s = c .before .before .before in let v = s .args .v in let d = now (s .args .d) in let h = s .pre in let e = c .tidied-copy .ensures in copy-long v d h _ e
-
-slice-aggregate-survey-areas : tie.Need-slice-aggregate-survey-areas
-slice-aggregate-survey-areas c = let s = c .before .before .before .before in let v = s .args .v in let d = now (s .args .d) in let h = s .pre in let e = c .before .tidied-copy .ensures in part-long v d h _ e
 
 at-least-requires : tie.Need-at-least-requires
 at-least-requires c κs = search needs
 
 survey-areas-requires : tie.Need-survey-areas-requires
-survey-areas-requires c κs = let s = c .before .before .before .before .before in let v = s .args .v in let d = now (s .args .d) in let h = s .pre in let e = c .before .before .tidied-copy .ensures in rw e (fault-chained v (tidied d (chain d)) (tidied-sound v d h))
+survey-areas-requires c κs = let s = c .before .before .before in tidyable (s .args .v) (now (s .args .d)) (s .pre)
+
+refused-requires : tie.Need-refused-requires
+refused-requires c κs = search needs
 
 same-length : tie.Need-same-length
 same-length c = search needs
 
 returns : tie.Need-returns
 unfolding refuse
-returns c = let s = c .before .before .before .before .before .before .before .before in let v = s .args .v in let d = now (s .args .d) in let h = s .pre in let e = c .before .before .before .before .before .tidied-copy .ensures in let k = c .before .before .survey-areas .ensures in let m = c .before .before .before .at-least .ensures in let o = short v d h _ e (s .args .asked) _ m _ k (not-true _ (c .if1 .taken)) (s .args .name) (s .args .channel) (s .args .date) in record { answer = sym (ap answer-of o); words = sym (ap words-of o) }
+returns c =
+    let c1 = c .before .before .before .before in
+    let c2 = c1 .before in
+    let c3 = c2 .before .before .before in
+    let s = c3 in
+    let d = now (s .args .d) in
+    let asked = s .args .asked in
+    let k = c1 .survey-areas .ensures in
+    let m = c2 .at-least .ensures in
+    let o = short d asked _ m _ (k .areas) (not-true _ (c .before .if1 .taken)) (s .args .name) (s .args .channel) (s .args .date) in
+    record { answer = c .refused .ensures ∙ sym (ap answer-of o); words = sym (ap words-of o) }
+
+refused-requires-2 : tie.Need-refused-requires-2
+refused-requires-2 c κs = search needs
 
 same-length-2 : tie.Need-same-length-2
 same-length-2 c = search needs
 
 returns-2 : tie.Need-returns-2
 unfolding refuse
-returns-2 c = let s = c .before .before .before .before .before .before .before .before .before .before in let v = s .args .v in let d = now (s .args .d) in let h = s .pre in let e = c .before .before .before .before .before .before .before .tidied-copy .ensures in let k = c .before .before .before .before .survey-areas .ensures in let m = c .before .before .before .before .before .at-least .ensures in let o = slotless v d h _ e (s .args .asked) _ m _ k (not-false _ (c .before .before .if1 .left)) (not-true _ (c .if2 .taken)) (s .args .name) (s .args .channel) (s .args .date) in record { answer = sym (ap answer-of o); words = sym (ap words-of o) }
+returns-2 c =
+    let c1 = c .before .before .before in
+    let c2 = c1 .before .before .before in
+    let c3 = c2 .before in
+    let c4 = c3 .before .before .before in
+    let s = c4 in
+    let d = now (s .args .d) in
+    let asked = s .args .asked in
+    let k = c2 .survey-areas .ensures in
+    let m = c3 .at-least .ensures in
+    let long = not-false _ (c1 .if1 .left) in
+    let o = slotless d asked _ m _ (k .areas) long (not-true _ (c .before .if2 .taken)) (s .args .name) (s .args .channel)
+    (s .args .date) in
+    record { answer = c .refused2 .ensures ∙ sym (ap answer-of o); words = sym (ap words-of o) }
 
 wanted-of-requires : tie.Need-wanted-of-requires
 wanted-of-requires c κs = search needs
-
-array-borrow-prefix-copy : tie.Need-array-borrow-prefix-copy
-array-borrow-prefix-copy c = let s = c .before .before .before .before .before .before .before .before .before .before .before .before in let v = s .args .v in let d = now (s .args .d) in let h = s .pre in let e = c .before .before .before .before .before .before .before .before .before .tidied-copy .ensures in copy-long v d h _ e
-
-slice-aggregate-place-file : tie.Need-slice-aggregate-place-file
-slice-aggregate-place-file c = let s = c .before .before .before .before .before .before .before .before .before .before .before .before .before in let v = s .args .v in let d = now (s .args .d) in let h = s .pre in let e = c .before .before .before .before .before .before .before .before .before .before .tidied-copy .ensures in part-long v d h _ e
 
 cast-place-file : tie.Need-cast-place-file
 cast-place-file c = search needs
 
 place-file-requires : tie.Need-place-file-requires
-place-file-requires c κs = search needs
+place-file-requires c κs =
+    let s = c .before .before .before .before .before .before .before .before .before .before .before in
+    let d = now (s .args .d) in
+    let asked = s .args .asked in
+    let k = c .before .before .before .before .before .before .before .survey-areas .ensures in
+    let m = c .before .before .before .before .before .before .before .before .at-least .ensures in
+    let long = not-false _ (c .before .before .before .before .if1 .left) in
+    let eligible = not-false _ (c .before .before .if2 .left) in
+    (s .pre, k .untidy, fits d asked _ m _ (k .areas) long eligible _ (c .before .wanted-of .ensures))
 
 same-length-3 : tie.Need-same-length-3
 same-length-3 c = search needs
 
 returns-3 : tie.Need-returns-3
-returns-3 c = let s = c .before .before .before .before .before .before .before .before .before .before .before .before .before .before .before .before .before in let v = s .args .v in let d = now (s .args .d) in let h = s .pre in let e = c .before .before .before .before .before .before .before .before .before .before .before .before .before .before .tidied-copy .ensures in let k = c .before .before .before .before .before .before .before .before .before .before .before .survey-areas .ensures in let m = c .before .before .before .before .before .before .before .before .before .before .before .before .at-least .ensures in let o = roomy v d h _ e (s .args .asked) _ m _ k (not-false _ (c .before .before .before .before .before .before .before .before .before .if1 .left)) (not-false _ (c .before .before .before .before .before .before .before .if2 .left)) _ (c .before .before .before .before .before .before .wanted-of .ensures) (s .args .name) (s .args .channel) (s .args .date) in record { answer = c .before .before .before .place-file .ensures .answer ∙ sym (ap answer-of o); words = c .before .before .before .place-file .ensures .words ∙ sym (ap words-of o) }
+returns-3 c =
+    let c1 = c .before .before .before .before in
+    let c2 = c1 .before in
+    let c3 = c2 .before .before in
+    let c4 = c3 .before .before .before in
+    let c5 = c4 .before in
+    let c6 = c5 .before .before .before in
+    let s = c6 in
+    let d = now (s .args .d) in
+    let asked = s .args .asked in
+    let k = c4 .survey-areas .ensures in
+    let m = c5 .at-least .ensures in
+    let long = not-false _ (c3 .if1 .left) in
+    let eligible = not-false _ (c2 .if2 .left) in
+    let o = roomy d asked _ m _ (k .areas) long eligible _ (c1 .wanted-of .ensures) (s .args .name) (s .args .channel) (s .args .date) in
+    let placed = c .before .before .place-file .ensures in
+    record { answer = placed .answer ∙ sym (ap answer-of o); words = placed .words ∙ sym (ap words-of o) }
 
 pub enter-file-spec : {M : Type 1} → statement M
 enter-file-spec =
     tie.close
     (tie.spec
-    tidied-copy-requires
-    array-share-prefix-copy
-    slice-aggregate-survey-areas
     at-least-requires
     survey-areas-requires
+    refused-requires
     same-length
     returns
+    refused-requires-2
     same-length-2
     returns-2
     wanted-of-requires
-    array-borrow-prefix-copy
-    slice-aggregate-place-file
     cast-place-file
     place-file-requires
     same-length-3

@@ -18,9 +18,11 @@ use ghost.Atoms.{Atoms, sem}
 use contract.Lifetimes.{Lfts}
 use contract.Monad.{Fun, fact}
 use contract.Running.{givenOf, tables, tablesOf}
-use types.Kit.{Given, ‵, raw, _⊛_, ⋆, some, later, _$_, _∵_, !, qed, by, move, drop, use1, use2, rewrite, split, join, pick, fsplit, fjoin, suffices, frame, await, done}
+use types.Kit.{Given, ‵, raw, _⊛_, ⋆, some, later, _$_, _∵_, !, qed, by, move, drop, use1, use2, rewrite, split, join, pick, fsplit}
+use types.Kit.{fjoin, suffices, frame, await, done}
 use types.Part.{agg}
-use types.Run.{look, init, forget, stop, from, load, and-then, no-more, assigns, land, returns, enter, alloc1, alloc0, params1, pass1, pass0, free1, free0}
+use types.Run.{look, init, forget, stop, from, load, and-then, no-more, assigns, land, returns, enter, alloc1, alloc0, params1, pass1}
+use types.Run.{pass0, free1, free0}
 use sound.WpLaws.{FmC, fmOf, WpFn-mono}
 use denote.RattleType.{owns}
 use denote.Laws.{Is, shows}
@@ -72,7 +74,8 @@ module _ {M : Type 1} (𝓤 : URA M) (H : Heap 𝓤) (A : Atoms 𝓤) (mem : Mem
   abbrev FaultOf : Contract 𝓤
   FaultOf = tripleOf 𝓤 H A fault-of.signature (fault-of.spec 𝓤 H A mem run)
 
-module _ {M : Type 1} (𝓤 : URA M) (H : Heap 𝓤) (A : Atoms 𝓤) (W : Given 𝓤 H A) (mem : Memory → SProp 𝓤) (run : Routine → Fun 𝓤) (κ : Lft) (q : Share) (s : RefT (List ℕ)) (n : ℕ) (ok : n < 2 ^ 64) where
+module _ {M : Type 1} (𝓤 : URA M) (H : Heap 𝓤) (A : Atoms 𝓤) (W : Given 𝓤 H A) (mem : Memory → SProp 𝓤) (run : Routine → Fun 𝓤) (κ : Lft)
+    (q : Share) (s : RefT (List ℕ)) (n : ℕ) (ok : n < 2 ^ 64) where
   abbrev κs : Lfts 1
   κs = (κ, tt)
 
@@ -101,16 +104,21 @@ module _ {M : Type 1} (𝓤 : URA M) (H : Heap 𝓤) (A : Atoms 𝓤) (W : Given
   to-start = ((κs, (q, tt), tt, (s, tt), (v ∷ [], tt)), tt)
 
   asked-start : ent 𝓤 (onEntry 𝓤 H A start.signature κs (q, tt) (s, tt) (v ∷ [], tt)) (Start 𝓤 H A mem run .pre to-start)
-  asked-start = qed W ((‵ (flft κ q) ⊛ ‵ ftrue) ∷ ‵ (owns (ShrSlice (named 0) κ u16 ∷ []) (s, tt) (v ∷ [], tt)) ∷ []) ∵ join ! $ frame ! $ done !
+  asked-start = qed W ((‵ (flft κ q) ⊛ ‵ ftrue) ∷ ‵ (owns (ShrSlice (named 0) κ u16 ∷ []) (s, tt) (v ∷ [], tt)) ∷ []) ∵ join ! $ frame ! $
+      done !
 
-  goes-start : ent 𝓤 (onEntry 𝓤 H A opens.signature κs (q, tt) (s, (n, tt)) vals) (sep 𝓤 (Start 𝓤 H A mem run .pre to-start) (sem 𝓤 H A Own))
+  goes-start : ent 𝓤 (onEntry 𝓤 H A opens.signature κs (q, tt) (s, (n, tt)) vals)
+      (sep 𝓤 (Start 𝓤 H A mem run .pre to-start) (sem 𝓤 H A Own))
   goes-start =
       qed W ((‵ (flft κ q) ⊛ ‵ ftrue) ∷ ‵ (owns (ShrSlice (named 0) κ u16 ∷ usize ∷ []) (s, (n, tt)) vals) ∷ []) ∵
-      move ! (1 ∷ []) $ fsplit ! $ move ! (1 ∷ []) $ drop ! $ use1 W (‵ Own ⊛ ‵ Own) (shr-slice-copy 𝓤 H A W (named 0) κ u16 .twice s (v ∷ [])) $ split ! $
+      move ! (1 ∷ []) $ fsplit ! $ move ! (1 ∷ []) $ drop ! $ use1 W (‵ Own ⊛ ‵ Own)
+      (shr-slice-copy 𝓤 H A W (named 0) κ u16 .twice s (v ∷ [])) $ split ! $
       -- [what s owns; the same; the token]
-      nothing ! $ move ! (1 ∷ 0 ∷ []) $ fjoin ! $ move ! (2 ∷ 0 ∷ []) $ use2 W (raw (Start 𝓤 H A mem run .pre to-start)) asked-start $ frame ! $ done !
+      nothing ! $ move ! (1 ∷ 0 ∷ []) $ fjoin ! $ move ! (2 ∷ 0 ∷ []) $ use2 W (raw (Start 𝓤 H A mem run .pre to-start)) asked-start $
+      frame ! $ done !
 
-  start-said : (c : Cursor) → ent 𝓤 (ensured 𝓤 H A start.ended (start.clauses 𝓤 H A mem run) κs (s, tt) tt c) (fact 𝓤 (c ≡ firstSlot (now s) 1))
+  start-said : (c : Cursor) → ent 𝓤 (ensured 𝓤 H A start.ended (start.clauses 𝓤 H A mem run) κs (s, tt) tt c)
+      (fact 𝓤 (c ≡ firstSlot (now s) 1))
   start-said c = exE 𝓤 _ (λ ws. snd∗ 𝓤 (sem 𝓤 H A (lasts start.ended κs (s, tt) ws)) (fact 𝓤 (c ≡ firstSlot (now s) 1)))
 
   -- the call of `fault_of`
@@ -118,7 +126,8 @@ module _ {M : Type 1} (𝓤 : URA M) (H : Heap 𝓤) (A : Atoms 𝓤) (W : Given
   to-fault = ((κs, (q, tt), tt, (s, (n, tt)), vals), tt)
 
   asked-fault : ent 𝓤 (onEntry 𝓤 H A fault-of.signature κs (q, tt) (s, (n, tt)) vals) (FaultOf 𝓤 H A mem run .pre to-fault)
-  asked-fault = qed W ((‵ (flft κ q) ⊛ ‵ ftrue) ∷ ‵ (owns (ShrSlice (named 0) κ u16 ∷ usize ∷ []) (s, (n, tt)) vals) ∷ []) ∵ join ! $ frame ! $ done !
+  asked-fault = qed W ((‵ (flft κ q) ⊛ ‵ ftrue) ∷ ‵ (owns (ShrSlice (named 0) κ u16 ∷ usize ∷ []) (s, (n, tt)) vals) ∷ []) ∵ join ! $
+      frame ! $ done !
 
   goes-fault : ent 𝓤 (⋆ 𝓤 H A ((‵ (flft κ q) ⊛ ‵ ftrue) ∷ ‵ Own ∷ [])) (sep 𝓤 (FaultOf 𝓤 H A mem run .pre to-fault) (sem 𝓤 H A Own))
   goes-fault =
@@ -128,7 +137,8 @@ module _ {M : Type 1} (𝓤 : URA M) (H : Heap 𝓤) (A : Atoms 𝓤) (W : Given
       -- [what s and n own; what s owns; the token]
       move ! (2 ∷ 0 ∷ []) $ use2 W (raw (FaultOf 𝓤 H A mem run .pre to-fault)) asked-fault $ frame ! $ done !
 
-  fault-said : (m : ℕ) → ent 𝓤 (ensured 𝓤 H A fault-of.ended (fault-of.clauses 𝓤 H A mem run) κs (s, (n, tt)) tt m) (fact 𝓤 (m ≡ fault n (now s)))
+  fault-said : (m : ℕ) → ent 𝓤 (ensured 𝓤 H A fault-of.ended (fault-of.clauses 𝓤 H A mem run) κs (s, (n, tt)) tt m)
+      (fact 𝓤 (m ≡ fault n (now s)))
   fault-said m = exE 𝓤 _ (λ ws. snd∗ 𝓤 (sem 𝓤 H A (lasts fault-of.ended κs (s, (n, tt)) ws)) (fact 𝓤 (m ≡ fault n (now s))))
 
   -- what is known of a cursor at the machine value that a call returned is known of it at its own
@@ -139,48 +149,76 @@ module _ {M : Type 1} (𝓤 : URA M) (H : Heap 𝓤) (A : Atoms 𝓤) (W : Given
       → ent 𝓤 (⋆ 𝓤 H A ((‵ (flft κ q) ⊛ ‵ ftrue) ∷ ‵ Own ∷ [])) (Post (T′.lowered (made c m)))
   exits c m e f is m-fits =
       qed W ((‵ (flft κ q) ⊛ ‵ ftrue) ∷ ‵ Own ∷ []) ∵
-      suffices ! _ (ends-at 𝓤 H A opens.ended stayed (opens.clauses 𝓤 H A mem run) W ((κs, (q, tt), tt, (s, (n, tt)), vals), tt) (T′.lowered (made c m)) (made c m) (tt, (tt, tt)) (tt, (tt, tt))) $ says ! (λ i. made (e i) (f i)) $
+      suffices ! _ (ends-at 𝓤 H A opens.ended stayed (opens.clauses 𝓤 H A mem run) W ((κs, (q, tt), tt, (s, (n, tt)), vals), tt)
+      (T′.lowered (made c m)) (made c m) (tt, (tt, tt)) (tt, (tt, tt))) $ says ! (λ i. made (e i) (f i)) $
       frame ! $ use1 W (‵ Own ⊛ ‵ Own) (shr-slice-copy 𝓤 H A W (named 0) κ u16 .twice s (v ∷ [])) $ split ! $
       nothing ! $ owned ! usize (Is usize) (uint-makes 𝓤 H A W w64) n _ (refl, ok) $ fjoin ! $ move ! (1 ∷ 0 ∷ []) $ fjoin ! $ frame ! $
       -- [what words owns]: what the fields own together is what the struct owns
-      nothing ! $ owned ! u16 (Is u16) (uint-makes 𝓤 H A W w16) m _ (refl, m-fits) $ fjoin ! $ owned ! K.the-row (Is K.the-row) (LL.makes K.the-type K′.the-plain 𝓤 H A) c _ is $ fjoin ! $
+      nothing ! $ owned ! u16 (Is u16) (uint-makes 𝓤 H A W w16) m _ (refl, m-fits) $ fjoin ! $ owned ! K.the-row (Is K.the-row)
+      (LL.makes K.the-type K′.the-plain 𝓤 H A) c _ is $ fjoin ! $
       move ! (1 ∷ 0 ∷ []) $ fjoin ! $ by ! (own-shut 𝓤 H A W (T.the-type α) (T′.the-laws α) (s, (c, (m, tt))))
 
-  module _ (C : Calls 𝓤 H) (Λ : Loops 𝓤 H) (fm : FmC 𝓤 H (W .laws) C) (known-start : Triple 𝓤 (C #cursor·start) (Start 𝓤 H A mem run)) (known-fault : Triple 𝓤 (C #directory·fault-of) (FaultOf 𝓤 H A mem run)) where
-    walk : Is (ShrSlice (named 0) κ u16) s (v ∷ []) → ent 𝓤 (onEntry 𝓤 H A opens.signature κs (q, tt) (s, (n, tt)) vals) (WpFn 𝓤 H C Λ code.function (v ∷ vint w64 n ∷ []) Post)
+  module _ (C : Calls 𝓤 H) (Λ : Loops 𝓤 H) (fm : FmC 𝓤 H (W .laws) C) (known-start : Triple 𝓤 (C #cursor·start) (Start 𝓤 H A mem run))
+      (known-fault : Triple 𝓤 (C #directory·fault-of) (FaultOf 𝓤 H A mem run)) where
+    walk : Is (ShrSlice (named 0) κ u16) s (v ∷ []) → ent 𝓤 (onEntry 𝓤 H A opens.signature κs (q, tt) (s, (n, tt)) vals)
+        (WpFn 𝓤 H C Λ code.function (v ∷ vint w64 n ∷ []) Post)
     walk p =
         qed W (raw (onEntry 𝓤 H A opens.signature κs (q, tt) (s, (n, tt)) vals) ∷ []) ∵ enter ! C Λ code.function (v ∷ vint w64 n ∷ []) _ $
-        alloc1 ! (λ l₀. alloc1 ! (λ l₁. alloc1 ! (λ l₂. alloc1 ! (λ l₃. alloc1 ! (λ l₄. alloc0 ! $ params1 ! $ pass1 ! (init ! 6 refl (shr-slice-lawful 𝓤 H A W (named 0) κ u16 .typed s (v ∷ []) p .0)) $ pass1 ! (init ! 4 refl (tt, record { fits = ok })) $ pass0 ! $
+        alloc1 ! (λ l₀. alloc1 ! (λ l₁. alloc1 ! (λ l₂. alloc1 ! (λ l₃. alloc1 ! (λ l₄. alloc0 ! $ params1 ! $
+        pass1 ! (init ! 6 refl (shr-slice-lawful 𝓤 H A W (named 0) κ u16 .typed s (v ∷ []) p .0)) $
+        pass1 ! (init ! 4 refl (tt, record { fits = ok })) $ pass0 ! $
         move ! (10 ∷ []) $ use1 W (raw (Start 𝓤 H A mem run .pre to-start) ⊛ ‵ Own) goes-start $ split ! $
         calls-at ! fm (Start 𝓤 H A mem run) known-start to-start (and-then ! (load ! (from ! (stop !)) (look ! 8 refl)) (no-more !)) (λ u.
-        use1 W (later (some (λ (c : Cursor). ((‵ (flft κ q) ⊛ ‵ ftrue) ⊛ ‵ (K.the-row .own c (u ∷ []))) ⊛ raw (ensured 𝓤 H A start.ended (start.clauses 𝓤 H A mem run) κs (s, tt) tt c)))) (id⊢ 𝓤 _) $ await ! tt $ pick ! (λ c.
-        split ! $ move ! (1 ∷ []) $ use1 W (raw (fact 𝓤 (c ≡ firstSlot (now s) 1))) (start-said c) $ heard ! (c ≡ firstSlot (now s) 1) (λ e. split ! $ move ! (1 ∷ []) $
+        use1 W (later (some (λ (c : Cursor). ((‵ (flft κ q) ⊛ ‵ ftrue) ⊛ ‵ (K.the-row .own c (u ∷ []))) ⊛ raw
+        (ensured 𝓤 H A start.ended (start.clauses 𝓤 H A mem run) κs (s, tt) tt c)))) (id⊢ 𝓤 _) $ await ! tt $ pick ! (λ c.
+        split ! $ move ! (1 ∷ []) $ use1 W (raw (fact 𝓤 (c ≡ firstSlot (now s) 1))) (start-said c) $ heard ! (c ≡ firstSlot (now s) 1)
+        (λ e. split ! $ move ! (1 ∷ []) $
         -- [the cursor's facts; the token; what s owns; _4; …; room for _3; …; _2; …; _1; …; room for _0; …]
         peeks ! K.the-row (Is K.the-row) (shows 𝓤 H A K.the-row) c (u ∷ []) (λ is.
-        land ! (from ! (stop !)) (init ! 5 refl (LL.lawful K.the-type K′.the-laws 𝓤 H A W .typed c _ is .0)) $ rewrite ! 5 (λ (x : Val). ‵ (fat fullShare K′.mir l₃ 0 x)) (ap only (LL.tells K.the-type K′.the-laws c (u ∷ []) is)) refl $ drop ! $
+        land ! (from ! (stop !)) (init ! 5 refl (LL.lawful K.the-type K′.the-laws 𝓤 H A W .typed c _ is .0)) $ rewrite ! 5
+        (λ (x : Val). ‵ (fat fullShare K′.mir l₃ 0 x)) (ap only (LL.tells K.the-type K′.the-laws c (u ∷ []) is)) refl $ drop ! $
         -- [the token; what s owns; room for _4; …; _3; …; _2; …; _1; …; room for _0; …]
         use2 W (raw (FaultOf 𝓤 H A mem run .pre to-fault) ⊛ ‵ Own) goes-fault $ split ! $
-        calls-at ! fm (FaultOf 𝓤 H A mem run) known-fault to-fault (and-then ! (load ! (from ! (stop !)) (look ! 8 refl)) (and-then ! (load ! (from ! (stop !)) (look ! 6 refl)) (no-more !))) (λ u′.
-        use1 W (later (some (λ (m : ℕ). ((‵ (flft κ q) ⊛ ‵ ftrue) ⊛ ‵ (u16 .own m (u′ ∷ []))) ⊛ raw (ensured 𝓤 H A fault-of.ended (fault-of.clauses 𝓤 H A mem run) κs (s, (n, tt)) tt m)))) (id⊢ 𝓤 _) $ await ! tt $ pick ! (λ m.
-        split ! $ move ! (1 ∷ []) $ use1 W (raw (fact 𝓤 (m ≡ fault n (now s)))) (fault-said m) $ heard ! (m ≡ fault n (now s)) (λ f. split ! $ move ! (1 ∷ []) $
+        calls-at ! fm (FaultOf 𝓤 H A mem run) known-fault to-fault
+        (and-then ! (load ! (from ! (stop !)) (look ! 8 refl)) (and-then ! (load ! (from ! (stop !)) (look ! 6 refl)) (no-more !))) (λ u′.
+        use1 W (later (some (λ (m : ℕ). ((‵ (flft κ q) ⊛ ‵ ftrue) ⊛ ‵ (u16 .own m (u′ ∷ []))) ⊛ raw
+        (ensured 𝓤 H A fault-of.ended (fault-of.clauses 𝓤 H A mem run) κs (s, (n, tt)) tt m)))) (id⊢ 𝓤 _) $ await ! tt $ pick ! (λ m.
+        split ! $ move ! (1 ∷ []) $ use1 W (raw (fact 𝓤 (m ≡ fault n (now s)))) (fault-said m) $ heard ! (m ≡ fault n (now s))
+        (λ f. split ! $ move ! (1 ∷ []) $
         -- [the number's facts; the token; what s owns; room for _4; …; _3; …; _2; …; _1; …; room for _0; …]
         peeks ! u16 (Is u16) (shows 𝓤 H A u16) m (u′ ∷ []) (λ is′.
-        land ! (from ! (stop !)) (init ! 3 refl (uint-lawful 𝓤 H A W w16 .typed m _ is′ .0)) $ rewrite ! 3 (λ (x : Val). ‵ (fat fullShare (tyInt w16) l₄ 0 x)) (ap only (is′ .0)) refl $
-        assigns ! (agg ! (and-then ! (load ! (from ! (stop !)) (look ! 9 refl)) (and-then ! (load ! (from ! (stop !)) (look ! 5 refl)) (and-then ! (load ! (from ! (stop !)) (look ! 3 refl)) (no-more !))))) (from ! (stop !))
-        (init ! 11 refl (tt, (shr-slice-lawful 𝓤 H A W (named 0) κ u16 .typed s (v ∷ []) p .0 .1, (LL.lawful K.the-type K′.the-laws 𝓤 H A W .typed c _ (at-own c u is) .0 .1, (record { fits = is′ .1 }, tt))))) $
+        land ! (from ! (stop !)) (init ! 3 refl (uint-lawful 𝓤 H A W w16 .typed m _ is′ .0)) $ rewrite ! 3
+        (λ (x : Val). ‵ (fat fullShare (tyInt w16) l₄ 0 x)) (ap only (is′ .0)) refl $
+        assigns ! (agg ! (and-then ! (load ! (from ! (stop !)) (look ! 9 refl))
+        (and-then ! (load ! (from ! (stop !)) (look ! 5 refl)) (and-then ! (load ! (from ! (stop !)) (look ! 3 refl)) (no-more !)))))
+        (from ! (stop !))
+        (init ! 11 refl (
+          tt,
+          (
+            shr-slice-lawful 𝓤 H A W (named 0) κ u16 .typed s (v ∷ []) p .0 .1,
+            (LL.lawful K.the-type K′.the-laws 𝓤 H A W .typed c _ (at-own c u is) .0 .1, (record { fits = is′ .1 }, tt)),
+          ),
+        )) $
         returns ! (look ! 11 refl) $ forget ! 3 refl $ forget ! 5 refl $ forget ! 7 refl $ forget ! 9 refl $ forget ! 11 refl $
-        move ! (11 ∷ 12 ∷ []) $ free1 ! $ move ! (9 ∷ 10 ∷ []) $ free1 ! $ move ! (7 ∷ 8 ∷ []) $ free1 ! $ move ! (5 ∷ 6 ∷ []) $ free1 ! $ move ! (3 ∷ 4 ∷ []) $ free1 ! $ free0 ! $ drop ! $ by ! (exits c m e f (at-own c u is) (is′ .1)))))))))))))))
+        move ! (11 ∷ 12 ∷ []) $ free1 ! $ move ! (9 ∷ 10 ∷ []) $ free1 ! $ move ! (7 ∷ 8 ∷ []) $ free1 ! $ move ! (5 ∷ 6 ∷ []) $ free1 ! $
+        move ! (3 ∷ 4 ∷ []) $ free1 ! $ free0 ! $ drop ! $ by ! (exits c m e f (at-own c u is) (is′ .1)))))))))))))))
 
 module _ {M : Type 1} (𝓤 : URA M) (H : Heap 𝓤) (A : Atoms 𝓤) (W : Given 𝓤 H A) (mem : Memory → SProp 𝓤) (run : Routine → Fun 𝓤) where
-  open-walks : (C : Calls 𝓤 H) (Λ : Loops 𝓤 H) → FmC 𝓤 H (W .laws) C → Triple 𝓤 (C #cursor·start) (Start 𝓤 H A mem run) → Triple 𝓤 (C #directory·fault-of) (FaultOf 𝓤 H A mem run)
+  open-walks : (C : Calls 𝓤 H) (Λ : Loops 𝓤 H) → FmC 𝓤 H (W .laws) C → Triple 𝓤 (C #cursor·start) (Start 𝓤 H A mem run) → Triple 𝓤
+      (C #directory·fault-of) (FaultOf 𝓤 H A mem run)
       → Walks 𝓤 H A opens.ended stayed (WpFn 𝓤 H C Λ code.function) (opens.clauses 𝓤 H A mem run)
-  open-walks C Λ fm known-start known-fault = walked 𝓤 H A opens.ended stayed (opens.clauses 𝓤 H A mem run) (WpFn 𝓤 H C Λ code.function) (λ κs. (slice-vals, (uint-vals w64, tt))) (λ κs. (shr-slice-tells (named 0) (κs .0) u16, (uint-tells w64, tt)))
-      (λ κs qs bounds a g are. via 𝓤 _ (fst∗ 𝓤 _ (emp 𝓤)) (walk 𝓤 H A W mem run (κs .0) (qs .0) (a .0) (a .1 .0) (are .1 .0 .1) C Λ fm known-start known-fault (are .0)))
+  open-walks C Λ fm known-start known-fault = walked 𝓤 H A opens.ended stayed (opens.clauses 𝓤 H A mem run) (WpFn 𝓤 H C Λ code.function)
+      (λ κs. (slice-vals, (uint-vals w64, tt))) (λ κs. (shr-slice-tells (named 0) (κs .0) u16, (uint-tells w64, tt)))
+      (λ κs qs bounds a g are. via 𝓤 _ (fst∗ 𝓤 _ (emp 𝓤))
+      (walk 𝓤 H A W mem run (κs .0) (qs .0) (a .0) (a .1 .0) (are .1 .0 .1) C Λ fm known-start known-fault (are .0)))
 
-open-meets : {M : Type 1} (𝓤 : URA M) (H : Heap 𝓤) (A : Atoms 𝓤) (W : Given 𝓤 H A) (mem : Memory → SProp 𝓤) (run : Routine → Fun 𝓤) (𝓣 : Tables 𝓤 H)
+open-meets : {M : Type 1} (𝓤 : URA M) (H : Heap 𝓤) (A : Atoms 𝓤) (W : Given 𝓤 H A) (mem : Memory → SProp 𝓤) (run : Routine → Fun 𝓤)
+    (𝓣 : Tables 𝓤 H)
     → Triple 𝓤 (𝓣 .C #cursor·start) (Start 𝓤 H A mem run) → Triple 𝓤 (𝓣 .C #directory·fault-of) (FaultOf 𝓤 H A mem run)
     → Meets 𝓤 H A opens.signature (WpFn 𝓤 H (𝓣 .C) (𝓣 .Λ) code.function) (opens.spec 𝓤 H A mem run)
-open-meets 𝓤 H A W mem run 𝓣 known-start known-fault = walk-meets 𝓤 H A opens.ended stayed W (goes-none-slice 𝓤 H A W 1 (0 ∷ []) tt (plain (λ _. u16)) yes, (goes-none 𝓤 H A W 1 (λ _. usize) yes (λ κs x f. refl), tt)) (opens.clauses 𝓤 H A mem run) (WpFn 𝓤 H (𝓣 .C) (𝓣 .Λ) code.function) (WpFn-mono 𝓤 H (W .laws) 𝓣 code.function)
+open-meets 𝓤 H A W mem run 𝓣 known-start known-fault = walk-meets 𝓤 H A opens.ended stayed W
+    (goes-none-slice 𝓤 H A W 1 (0 ∷ []) tt (plain (λ _. u16)) yes, (goes-none 𝓤 H A W 1 (λ _. usize) yes (λ κs x f. refl), tt))
+    (opens.clauses 𝓤 H A mem run) (WpFn 𝓤 H (𝓣 .C) (𝓣 .Λ) code.function) (WpFn-mono 𝓤 H (W .laws) 𝓣 code.function)
     (open-walks 𝓤 H A W mem run (𝓣 .C) (𝓣 .Λ) (fmOf 𝓤 H (W .laws) 𝓣) known-start known-fault)
 
 pub open-spec : {M : Type 1} → stated.statement M
@@ -189,5 +227,7 @@ open-spec 𝓤 H 𝓜 𝓖 𝓡 =
     entered 𝓤 H (tripleOf 𝓤 H (𝓖 .A) opens.signature (opens.spec 𝓤 H (𝓖 .A) (𝓜 .mem) (𝓡 .run)))
     (tables 𝓤 H 𝓜 𝓡 code.env .C) (tables 𝓤 H 𝓜 𝓡 code.env .Λ) #reader·open code.function (code.unfolded 𝓤 H 𝓜 𝓡)
     (open-meets 𝓤 H (𝓖 .A) (givenOf 𝓤 H 𝓜 𝓖) (𝓜 .mem) (𝓡 .run) (tablesOf 𝓤 H 𝓜 (tables 𝓤 H 𝓜 𝓡 code.env))
-    (cited 𝓤 H (Start 𝓤 H (𝓖 .A) (𝓜 .mem) (𝓡 .run)) 𝓜 𝓡 code.env #cursor·start start-def.routine code.calls-cursor·start (start-thm.met 𝓤 H 𝓜 𝓖 𝓡))
-    (cited 𝓤 H (FaultOf 𝓤 H (𝓖 .A) (𝓜 .mem) (𝓡 .run)) 𝓜 𝓡 code.env #directory·fault-of fault-of-def.routine code.calls-directory·sound·fault-of (fault-of-thm.met 𝓤 H 𝓜 𝓖 𝓡)))
+    (cited 𝓤 H (Start 𝓤 H (𝓖 .A) (𝓜 .mem) (𝓡 .run)) 𝓜 𝓡 code.env #cursor·start start-def.routine code.calls-cursor·start
+    (start-thm.met 𝓤 H 𝓜 𝓖 𝓡))
+    (cited 𝓤 H (FaultOf 𝓤 H (𝓖 .A) (𝓜 .mem) (𝓡 .run)) 𝓜 𝓡 code.env #directory·fault-of fault-of-def.routine
+    code.calls-directory·sound·fault-of (fault-of-thm.met 𝓤 H 𝓜 𝓖 𝓡)))

@@ -1,7 +1,7 @@
 -- `put_inserted` meets its contract: four writes, each where the one before it ends, and then the area's length changed.
 use borrow.Author.Needs.{needs}
 use native.Mathlib.Omega.{arith}
-use mathlib.Core.Path.{_≡_, refl, sym, ap, _∙_}
+use mathlib.Core.Path.{_≡_, sym, ap, _∙_}
 use denote.Ref.{now}
 use Prim.Native.Nat.{_+_, _-_}
 use lib.ListN.{length, take, drop, length-drop, length-set}
@@ -10,10 +10,6 @@ use Rattle.render.specs.Anew.{gapWords, insertedWords}
 use Rattle.render.proofs.Anew.{inserted-length, rest-is, inserted-written}
 use Rattle.render.proofs.put_inserted.Statement.{statement}
 use Rattle.render.proofs.put_inserted.Tie as tie
-use Rattle.render.proofs.put_inserted.Reads as reads
-use Rattle.render.proofs.put_inserted.Lts as lts
-use Rattle.copying.proofs.put_words.Reads as put-words-reads
-use Rattle.render.proofs.put_gap.Reads as put-gap-reads
 
 -- the lengths of what is written
 lengths : (c : tie.Start)
@@ -29,114 +25,123 @@ lengths c =
       ap length (rest-is (a .word) (now (a .words))) ∙ length-drop (a .word) (now (a .words)),
     )
 
--- src/render.rt:61:31
 slice-aggregate-put-words : tie.Need-slice-aggregate-put-words
 slice-aggregate-put-words c = sym (lengths (c .before .before .before .before) .1)
 
--- src/render.rt:61:9
 put-words-requires : tie.Need-put-words-requires
 put-words-requires c κs =
     let n = lengths (c .before .before .before .before .before) in
     omega arith
 
--- src/render.rt:62:9
 put-gap-requires : tie.Need-put-gap-requires
 put-gap-requires c κs =
     let n = lengths (c .before .before .before .before .before .before .before .before .before) in
     let u = c .before .before .before .put-words .ensures in
     (omega arith, omega arith, omega arith)
 
--- src/render.rt:63:9
 put-words-requires-2 : tie.Need-put-words-requires-2
 put-words-requires-2 c κs =
-    let n = lengths (c .before .before .before .before .before .before .before .before .before .before .before .before .before) in
-    let u = c .before .before .before .before .before .before .before .put-words .ensures in
-    let v = c .before .before .before .put-gap .ensures in
+    let c1 = c .before .before .before in
+    let c2 = c1 .before .before .before .before in
+    let c3 = c2 .before .before .before .before .before .before in
+    let n = lengths (c3) in
+    let u = c2 .put-words .ensures in
+    let v = c1 .put-gap .ensures in
     omega arith
 
--- src/render.rt:64:32
 mul-put-words : tie.Need-mul-put-words
 mul-put-words c = search needs
 
--- src/render.rt:64:32
 sub-put-words : tie.Need-sub-put-words
 sub-put-words c = search needs
 
--- src/render.rt:64:32
 part-put-words-start : tie.Need-part-put-words-start
 part-put-words-start c = search needs
 
--- src/render.rt:64:32
 part-put-words-end : tie.Need-part-put-words-end
 part-put-words-end c = search needs
 
--- src/render.rt:64:9
 put-words-requires-3 : tie.Need-put-words-requires-3
 put-words-requires-3 c κs =
-    let n = lengths (c .before .before .before .before .before .before .before .before .before .before .before .before .before .before .before .before .before .before) in
-    let u = c .before .before .before .before .before .before .before .before .before .before .before .before .put-words .ensures in
-    let v = c .before .before .before .before .before .before .before .before .put-gap .ensures in
-    let w = c .before .before .before .before .put-words2 .ensures in
+    let c1 = c .before .before .before .before in
+    let c2 = c1 .before .before .before .before in
+    let c3 = c2 .before .before .before .before in
+    let c4 = c3 .before .before .before .before .before .before in
+    let n = lengths (c4) in
+    let u = c3 .put-words .ensures in
+    let v = c2 .put-gap .ensures in
+    let w = c1 .put-words2 .ensures in
     omega arith
 
--- src/render.rt:65:27
 add-out : tie.Need-add-out
 add-out c = search needs
 
--- src/render.rt:65:21
 mul-out : tie.Need-mul-out
 mul-out c = search needs
 
--- src/render.rt:65:21
 shared-slice-read-out : tie.Need-shared-slice-read-out
 shared-slice-read-out c = search needs
 
--- src/render.rt:65:39
 shared-slice-read-out-2 : tie.Need-shared-slice-read-out-2
 shared-slice-read-out-2 c = search needs
 
--- src/render.rt:65:21
 sub-out : tie.Need-sub-out
 sub-out c = search needs
 
--- src/render.rt:65:9
 add-out-2 : tie.Need-add-out-2
 add-out-2 c = search needs
 
--- src/render.rt:65:5
 mul-out-2 : tie.Need-mul-out-2
 mul-out-2 c =
-    let n = lengths (c .before .before .before .before .before .before .before .before .before .before .before .before .before .before .before .before .before .before .before .before .before .before .before) in
-    let u = c .before .before .before .before .before .before .before .before .before .before .before .before .before .before .before .before .before .put-words .ensures in
-    let v = c .before .before .before .before .before .before .before .before .before .before .before .before .before .put-gap .ensures in
-    let w = c .before .before .before .before .before .before .before .before .before .put-words2 .ensures in
-    let x = c .before .before .before .before .put-words3 .ensures in
+    let c1 = c .before .before .before .before in
+    let c2 = c1 .before .before .before .before .before in
+    let c3 = c2 .before .before .before .before in
+    let c4 = c3 .before .before .before .before in
+    let c5 = c4 .before .before .before .before .before .before in
+    let n = lengths (c5) in
+    let u = c4 .put-words .ensures in
+    let v = c3 .put-gap .ensures in
+    let w = c2 .put-words2 .ensures in
+    let x = c1 .put-words3 .ensures in
     omega arith
 
--- src/render.rt:65:5
 slice-write-out : tie.Need-slice-write-out
 slice-write-out c =
-    let n = lengths (c .before .before .before .before .before .before .before .before .before .before .before .before .before .before .before .before .before .before .before .before .before .before .before) in
-    let u = c .before .before .before .before .before .before .before .before .before .before .before .before .before .before .before .before .before .put-words .ensures in
-    let v = c .before .before .before .before .before .before .before .before .before .before .before .before .before .put-gap .ensures in
-    let w = c .before .before .before .before .before .before .before .before .before .put-words2 .ensures in
-    let x = c .before .before .before .before .put-words3 .ensures in
+    let c1 = c .before .before .before .before in
+    let c2 = c1 .before .before .before .before .before in
+    let c3 = c2 .before .before .before .before in
+    let c4 = c3 .before .before .before .before in
+    let c5 = c4 .before .before .before .before .before .before in
+    let n = lengths (c5) in
+    let u = c4 .put-words .ensures in
+    let v = c3 .put-gap .ensures in
+    let w = c2 .put-words2 .ensures in
+    let x = c1 .put-words3 .ensures in
     omega arith
 
--- src/render.rt:50:1
 same-length : tie.Need-same-length
-same-length c = simp length-set (c .before .before .before .before .put-words3 .ensures .long ∙ c .before .before .before .before .before .before .before .before .before .put-words2 .ensures .long ∙ c .before .before .before .before .before .before .before .before .before .before .before .before .before .put-gap .ensures .long ∙ c .before .before .before .before .before .before .before .before .before .before .before .before .before .before .before .before .before .put-words .ensures .long)
+same-length c =
+    let c1 = c .before .before .before .before in
+    let c2 = c1 .before .before .before .before .before in
+    let c3 = c2 .before .before .before .before in
+    let c4 = c3 .before .before .before .before in
+    simp length-set (c1 .put-words3 .ensures .long ∙ c2 .put-words2 .ensures .long ∙ c3 .put-gap .ensures .long
+    ∙ c4 .put-words .ensures .long)
 
--- src/render.rt:50:1
 returns : tie.Need-returns
 returns c =
-    let a = c .before .before .before .before .before .before .before .before .before .before .before .before .before .before .before .before .before .before .before .before .before .before .before .args in
-    let u = c .before .before .before .before .before .before .before .before .before .before .before .before .before .before .before .before .before .put-words .ensures in
-    let v = c .before .before .before .before .before .before .before .before .before .before .before .before .before .put-gap .ensures in
-    let w = c .before .before .before .before .before .before .before .before .before .put-words2 .ensures in
-    let x = c .before .before .before .before .put-words3 .ensures in
-    let n = lengths (c .before .before .before .before .before .before .before .before .before .before .before .before .before .before .before .before .before .before .before .before .before .before .before) in
-    let h = c .before .before .before .before .before .before .before .before .before .before .before .before .before .before .before .before .before .before .before .before .before .before .before .pre .0 in
+    let c1 = c .before .before .before .before in
+    let c2 = c1 .before .before .before .before .before in
+    let c3 = c2 .before .before .before .before in
+    let c4 = c3 .before .before .before .before in
+    let c5 = c4 .before .before .before .before .before .before in
+    let a = c5 .args in
+    let u = c4 .put-words .ensures in
+    let v = c3 .put-gap .ensures in
+    let w = c2 .put-words2 .ensures in
+    let x = c1 .put-words3 .ensures in
+    let n = lengths (c5) in
+    let h = c5 .pre .0 in
     inserted-written (a .word) (a .cost) (now (a .new)) (now (a .words)) (omega arith) (h .wide) (h .slot) u v w x (omega arith)
 
 pub put-inserted-spec : {M : Type 1} → statement M

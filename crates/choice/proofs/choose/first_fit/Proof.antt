@@ -1,11 +1,11 @@
 -- `first_fit` meets its contract: the loop keeps `Choosing`, that what is chosen in the segments ahead is what is chosen in all,
 -- and its measure is the segments left.
-use native.Mathlib.Omega.{arith}
 use borrow.Author.Needs.{needs}
+use native.Mathlib.Omega.{arith}
 use denote.Ref.{now}
 use Prim.Native.Nat.{_+_, _*_, _-_}
 use lib.ListN.{length-take, length-drop}
-use Rattle.choice.proofs.Visits.{Visit, visit}
+use Rattle.chain.proofs.Links.{Next, next}
 use Rattle.choice.proofs.FirstFit.{Choosing, starts, none-chosen, pass-by, chosen-here}
 use Rattle.choice.proofs.choose.first_fit.Statement.{statement}
 use Rattle.choice.proofs.choose.first_fit.Tie as tie
@@ -18,12 +18,11 @@ abbrev μ-loop : tie.MeasureT-loop
 
 -- what the links say of the segment at hand
 at-hand : (c : tie.In-loop Inv-loop μ-loop)
-    → Visit (c .before .loop .left) (now (c .before .before .before .before .before .before .args .words))
-    (c .before .loop .number)
-at-hand c = visit _ _ _ (c .loop-test .taken) (c .before .loop .inv .links)
+    → Next (c .before .loop .left) (now (c .before .before .before .before .before .before .args .words)) (c .before .loop .number)
+at-hand c = next _ _ _ (c .loop-test .taken) (c .before .loop .inv .links)
 
 shared-slice-read-width : tie.Need-shared-slice-read-width Inv-loop μ-loop
-shared-slice-read-width c = search needs
+shared-slice-read-width c = omega (arith, c .before .before .pre .whole, c .before .before .pre .some)
 
 cast-width : tie.Need-cast-width Inv-loop μ-loop
 cast-width c = omega (arith, c .shared-slice-known2 .given 3)
@@ -32,93 +31,117 @@ add-width : tie.Need-add-width Inv-loop μ-loop
 add-width c = omega (arith, c .shared-slice-known2 .given 3)
 
 shared-slice-read-spare : tie.Need-shared-slice-read-spare Inv-loop μ-loop
-shared-slice-read-spare c = search needs
+shared-slice-read-spare c = omega (arith, c .before .before .before .pre .whole, c .before .before .before .pre .some)
 
 cast-spare : tie.Need-cast-spare Inv-loop μ-loop
 cast-spare c = omega (arith, c .shared-slice-known3 .given 2)
 
 shared-slice-read-left : tie.Need-shared-slice-read-left Inv-loop μ-loop
-shared-slice-read-left c = search needs
+shared-slice-read-left c =
+    let c1 = c .before .before .before .before in
+    omega (arith, c1 .pre .whole, c1 .pre .some)
 
 cast-left : tie.Need-cast-left Inv-loop μ-loop
 cast-left c = omega (arith, c .shared-slice-known4 .given 2)
 
 loop-holds : tie.Need-loop-holds Inv-loop μ-loop
 loop-holds c =
-    let a = c .before .before .before .before .args in
-    starts (now (a .words)) (a .least) (c .before .before .before .before .pre .links)
+    let c1 = c .before .before .before .before in
+    let a = c1 .args in starts (now (a .words)) (a .least) (c1 .pre .links)
 
 sub-base : tie.Need-sub-base Inv-loop μ-loop
-sub-base c = let v = at-hand c in omega arith
+sub-base c =
+    let y = c .before .before .before .before .before .before .pre in
+    let v = at-hand (c) in
+    omega (arith, y .whole, y .few)
 
 mul-base : tie.Need-mul-base Inv-loop μ-loop
-mul-base c = let v = at-hand c in omega arith
+mul-base c =
+    let y = c .before .before .before .before .before .before .pre in
+    let v = at-hand (c) in
+    omega (arith, y .whole, y .few)
 
 add-end : tie.Need-add-end Inv-loop μ-loop
-add-end c = let v = at-hand c in omega arith
+add-end c =
+    let y = c .before .before .before .before .before .before .pre in
+    let v = at-hand (c) in
+    omega (arith, y .whole, y .few)
 
-mul-room-in : tie.Need-mul-room-in Inv-loop μ-loop
-mul-room-in c = let v = at-hand c in omega arith
+mul-fit-at : tie.Need-mul-fit-at Inv-loop μ-loop
+mul-fit-at c =
+    let y = c .before .before .before .before .before .before .pre in
+    let v = at-hand (c) in
+    omega (arith, y .whole, y .few)
 
-sub-room-in : tie.Need-sub-room-in Inv-loop μ-loop
-sub-room-in c = let v = at-hand c in omega arith
+sub-fit-at : tie.Need-sub-fit-at Inv-loop μ-loop
+sub-fit-at c =
+    let y = c .before .before .before .before .before .before .pre in
+    let v = at-hand (c) in
+    omega (arith, y .whole, y .few)
 
-part-room-in-start : tie.Need-part-room-in-start Inv-loop μ-loop
-part-room-in-start c = let v = at-hand c in omega arith
+part-fit-at-start : tie.Need-part-fit-at-start Inv-loop μ-loop
+part-fit-at-start c =
+    let y = c .before .before .before .before .before .before .pre in
+    let v = at-hand (c) in
+    omega (arith, y .whole, y .few)
 
-part-room-in-end : tie.Need-part-room-in-end Inv-loop μ-loop
-part-room-in-end c = let v = at-hand c in omega arith
+part-fit-at-end : tie.Need-part-fit-at-end Inv-loop μ-loop
+part-fit-at-end c =
+    let y = c .before .before .before .before .before .before .pre in
+    let v = at-hand (c) in
+    omega (arith, y .whole, y .few)
 
-room-in-requires : tie.Need-room-in-requires Inv-loop μ-loop
-room-in-requires c κs =
-    let v = at-hand (c .before) in
-    (simp (length-take, length-drop) (omega arith), omega arith, omega arith)
-
-mul-fit-in : tie.Need-mul-fit-in Inv-loop μ-loop
-mul-fit-in c = let v = at-hand (c .before .before) in omega arith
-
-sub-fit-in : tie.Need-sub-fit-in Inv-loop μ-loop
-sub-fit-in c = let v = at-hand (c .before .before) in omega arith
-
-part-fit-in-start : tie.Need-part-fit-in-start Inv-loop μ-loop
-part-fit-in-start c = let v = at-hand (c .before .before) in omega arith
-
-part-fit-in-end : tie.Need-part-fit-in-end Inv-loop μ-loop
-part-fit-in-end c = let v = at-hand (c .before .before) in omega arith
-
-fit-in-requires : tie.Need-fit-in-requires Inv-loop μ-loop
-fit-in-requires c κs =
-    let v = at-hand (c .before .before .before) in
-    (simp (length-take, length-drop) (omega arith), omega arith, omega arith, v .low, omega arith, c .before .room-in .ensures .few)
+fit-at-requires : tie.Need-fit-at-requires Inv-loop μ-loop
+fit-at-requires c κs =
+    let y = c .before .before .before .before .before .before .before .pre in
+    let v = at-hand (c .before) in (
+      simp (length-take, length-drop) (omega (arith, y .whole, y .few)),
+      omega arith,
+      omega (arith, y .extra),
+      v .low,
+      omega (arith, y .whole, y .few),
+    )
 
 enum-known-chosen : tie.Need-enum-known-chosen Inv-loop μ-loop
 enum-known-chosen c = search needs
 
 returns : tie.Need-returns Inv-loop μ-loop
 returns c =
-    let a = c .before .before .before .before .before .before .before .before .before .before .before .before .before .args in
-    let l = c .before .before .before .before .before .before .before .before .loop in
-    let h = c .before .before .before .before .before .before .before .loop-test .taken in
-    chosen-here (now (a .words)) (a .least) (l .left) (l .number) (l .inv) h _
-    (c .before .before .before .before .before .room-in .ensures) _ (c .before .before .before .fit-in .ensures) _
-    (c .before .chosen .given .1) (at-hand (c .before .before .before .before .before .before .before))
+    let c1 = c .before .before .before in
+    let c2 = c1 .before .before in
+    let c3 = c2 .before in
+    let c4 = c3 .before .before .before .before .before in
+    let a = c4 .args in
+    let l = c3 .loop in
+    let v = at-hand (c2) in
+    chosen-here (now (a .words)) (a .least) (l .left) (l .number) (l .inv) (c2 .loop-test .taken) _ (c1 .fit-at .ensures) _
+    (c .before .chosen .given .1) v
 
 enum-told : tie.Need-enum-told Inv-loop μ-loop
 enum-told c = search needs
 
 add-number : tie.Need-add-number Inv-loop μ-loop
-add-number c = let v = at-hand (c .before .before .before .before .before .before) in omega arith
+add-number c =
+    let y = c .before .before .before .before .before .before .before .before .before .before .pre in
+    let v = at-hand (c .before .before .before .before) in
+    omega (arith, y .whole, y .few)
 
 mul-number : tie.Need-mul-number Inv-loop μ-loop
-mul-number c = let v = at-hand (c .before .before .before .before .before .before) in omega arith
+mul-number c =
+    let y = c .before .before .before .before .before .before .before .before .before .before .pre in
+    let v = at-hand (c .before .before .before .before) in
+    omega (arith, y .whole, y .few)
 
 shared-slice-read-number : tie.Need-shared-slice-read-number Inv-loop μ-loop
-shared-slice-read-number c = let v = at-hand (c .before .before .before .before .before .before .before) in omega arith
+shared-slice-read-number c =
+    let y = c .before .before .before .before .before .before .before .before .before .before .before .pre in
+    let v = at-hand (c .before .before .before .before .before) in
+    omega (arith, y .whole, y .few)
 
 cast-number : tie.Need-cast-number Inv-loop μ-loop
 cast-number c =
-    let l = c .before .before .before .before .before .before .before .before .loop in
-    omega (arith, c .shared-slice-known5 .given (512 * (l .number - 1) + 1))
+    let c1 = c .before .before .before .before .before .before in
+    omega (arith, c .shared-slice-known5 .given (512 * (c1 .loop .number - 1) + 1))
 
 sub-left : tie.Need-sub-left Inv-loop μ-loop
 sub-left c = search needs
@@ -128,12 +151,15 @@ loop-less c = search needs
 
 loop-again : tie.Need-loop-again Inv-loop μ-loop
 loop-again c =
-    let a = c .before .before .before .before .before .before .before .before .before .before .before .before .before .args in
-    let l = c .before .before .before .before .before .before .before .before .loop in
-    let h = c .before .before .before .before .before .before .before .loop-test .taken in
-    pass-by (now (a .words)) (a .least) (l .left) (l .number) (l .inv) h _
-    (c .before .before .before .before .before .room-in .ensures) _ (c .before .before .before .fit-in .ensures)
-    (c .before .enum-told .given .1) (at-hand (c .before .before .before .before .before .before .before) .rest)
+    let c1 = c .before .before .before in
+    let c2 = c1 .before .before in
+    let c3 = c2 .before in
+    let c4 = c3 .before .before .before .before .before in
+    let a = c4 .args in
+    let l = c3 .loop in
+    let v = at-hand (c2) in
+    pass-by (now (a .words)) (a .least) (l .left) (l .number) (l .inv) (c2 .loop-test .taken) _ (c1 .fit-at .ensures)
+    (c .before .enum-told .given .1) (v .rest)
 
 returns-2 : tie.Need-returns-2 Inv-loop μ-loop
 returns-2 c =
@@ -158,16 +184,11 @@ first-fit-spec =
     sub-base
     mul-base
     add-end
-    mul-room-in
-    sub-room-in
-    part-room-in-start
-    part-room-in-end
-    room-in-requires
-    mul-fit-in
-    sub-fit-in
-    part-fit-in-start
-    part-fit-in-end
-    fit-in-requires
+    mul-fit-at
+    sub-fit-at
+    part-fit-at-start
+    part-fit-at-end
+    fit-at-requires
     enum-known-chosen
     returns
     enum-told

@@ -11,16 +11,17 @@ use Rattle.choice.proofs.choose.fit_in.Statement.{statement}
 use Rattle.choice.proofs.choose.fit_in.Tie as tie
 
 abbrev Inv-loop : tie.InvT-loop
-Inv-loop segment width number room least left₀ word₀ before₀ first₀ tentative₀ left word before first tentative =
-    Fitting segment width number room least left word before first tentative
+Inv-loop segment width number free least left₀ word₀ before₀ first₀ tentative₀ left word before first tentative =
+    Fitting segment width number free least left word before first tentative
 
 abbrev μ-loop : tie.MeasureT-loop
-μ-loop segment width number room least left₀ word₀ before₀ first₀ tentative₀ left word before first tentative = left
+μ-loop segment width number free least left₀ word₀ before₀ first₀ tentative₀ left word before first tentative = left
 
 -- the slot at hand lies in the segment
 slot-fits : (c : tie.In-loop Inv-loop μ-loop) → c .before .loop .word + c .before .before .before .before .args .width ≤ 512
 slot-fits c =
-    omega (arith, mul-less (c .before .loop .left) (c .before .before .before .before .args .width) (c .loop-test .taken))
+    let c1 = c .before .before .before .before in
+    omega (arith, mul-less (c .before .loop .left) (c1 .args .width) (c .loop-test .taken))
 
 div-left : tie.Need-div-left Inv-loop μ-loop
 div-left c = search needs
@@ -34,7 +35,7 @@ cast-first c = omega (arith, c .shared-slice-known2 .given 4)
 loop-holds : tie.Need-loop-holds Inv-loop μ-loop
 loop-holds c =
     let a = c .before .before .args in
-    starts (now (a .segment)) (a .width) (a .number) (a .room) (a .least) (omega (arith, c .shared-slice-known2 .given 4))
+    starts (now (a .segment)) (a .width) (a .number) (a .free) (a .least) (omega (arith, c .shared-slice-known2 .given 4))
 
 mul-status : tie.Need-mul-status Inv-loop μ-loop
 mul-status c = omega (arith, slot-fits c)
@@ -51,7 +52,7 @@ returns c =
     let l = c .before .before .before .before .loop in
     let h = c .before .before .before .loop-test .taken in
     let e =
-    fits-end (a .width) (a .number) (a .room) (a .least) (now (a .segment)) (l .left) (l .word) (l .before) (l .first)
+    fits-end (a .width) (a .number) (a .free) (a .least) (now (a .segment)) (l .left) (l .word) (l .before) (l .first)
     (l .tentative) h (omega arith) (sym (c .before .is-marker .ensures) ∙ c .if1 .taken) in
     record { is = e ∙ l .inv .same; stands = tt }
 
@@ -81,12 +82,17 @@ cost-after-requires c κs = search needs
 
 returns-2 : tie.Need-returns-2 Inv-loop μ-loop
 returns-2 c =
-    let a = c .before .before .before .before .before .before .before .before .before .before .before .args in
-    let l = c .before .before .before .before .before .before .before .before .loop in
-    let h = c .before .before .before .before .before .before .before .loop-test .taken in
+    let c1 = c .before .before .before .before in
+    let c2 = c1 .before in
+    let c3 = c2 .before .before in
+    let c4 = c3 .before in
+    let c5 = c4 .before .before .before in
+    let a = c5 .args in
+    let l = c4 .loop in
+    let h = c3 .loop-test .taken in
     let m =
-    sym (c .before .before .before .before .before .is-marker .ensures) ∙ c .before .before .before .before .if1 .left in
-    fit-hit (a .width) (a .number) (a .room) (a .least) (now (a .segment)) (l .left) (l .word) (l .before) (l .first)
+    sym (c2 .is-marker .ensures) ∙ c1 .if1 .left in
+    fit-hit (a .width) (a .number) (a .free) (a .least) (now (a .segment)) (l .left) (l .word) (l .before) (l .first)
     (l .tentative) (l .inv) h (omega arith) m (sym (c .before .before .is-fit .ensures) ∙ c .before .if2 .taken) _
     (c .cost-after .ensures)
 
@@ -117,21 +123,27 @@ loop-less c = search needs
 
 loop-again : tie.Need-loop-again Inv-loop μ-loop
 loop-again c =
-    let a = c .before .before .before .before .before .before .before .before .before .before .before .args in
-    let l = c .before .before .before .before .before .before .before .before .loop in
-    let h = c .before .before .before .before .before .before .before .loop-test .taken in
+    let c1 = c .before .before .before in
+    let c2 = c1 .before in
+    let c3 = c2 .before in
+    let c4 = c3 .before .before in
+    let c5 = c4 .before in
+    let c6 = c5 .before .before .before in
+    let a = c6 .args in
+    let l = c5 .loop in
+    let h = c4 .loop-test .taken in
     let m =
-    sym (c .before .before .before .before .before .is-marker .ensures) ∙ c .before .before .before .before .if1 .left in
-    fit-miss (a .width) (a .number) (a .room) (a .least) (now (a .segment)) (l .left) (l .word) (l .before) (l .first)
+    sym (c3 .is-marker .ensures) ∙ c2 .if1 .left in
+    fit-miss (a .width) (a .number) (a .free) (a .least) (now (a .segment)) (l .left) (l .word) (l .before) (l .first)
     (l .tentative) (l .inv) h (omega arith) m (sym (c .before .before .is-fit .ensures) ∙ c .before .if2 .left)
-    (omega (arith, c .before .before .before .shared-slice-known4 .given (l .word + 4))) _ (c .is-tentative .ensures)
+    (omega (arith, c1 .shared-slice-known4 .given (l .word + 4))) _ (c .is-tentative .ensures)
 
 returns-3 : tie.Need-returns-3 Inv-loop μ-loop
 returns-3 c =
     let a = c .before .before .before .before .args in
     let l = c .before .loop in
     let e =
-    fits-over (a .width) (a .number) (a .room) (a .least) (now (a .segment)) (l .left) (l .word) (l .before) (l .first)
+    fits-over (a .width) (a .number) (a .free) (a .least) (now (a .segment)) (l .left) (l .word) (l .before) (l .first)
     (l .tentative) (c .loop-test .left) in
     record { is = e ∙ l .inv .same; stands = tt }
 

@@ -33,13 +33,19 @@ loop-less : tie.Need-loop-less Inv-loop μ-loop
 loop-less c = search needs
 
 loop-again : tie.Need-loop-again Inv-loop μ-loop
-loop-again c = let l = c .before .loop in let w = now (c .before .before .args .words) in (omega arith, rw (l .inv .1) (fill-more (l .i) 0 w (omega arith)), rw length-set (l .inv .2))
+loop-again c =
+    let l = c .before .loop in
+    let w = now (c .before .before .args .words) in
+    (omega arith, rw (l .inv .1) (fill-more (l .i) 0 w (omega arith)), rw length-set (l .inv .2))
 
 same-length : tie.Need-same-length Inv-loop μ-loop
 same-length c = c .before .loop .inv .2
 
 returns : tie.Need-returns Inv-loop μ-loop
-returns c = let l = c .before .loop in let w = now (c .before .before .args .words) in l .inv .1 ∙ all-cleared w (l .i) (l .inv .0) (omega arith)
+returns c =
+    let l = c .before .loop in
+    let w = now (c .before .before .args .words) in
+    l .inv .1 ∙ all-cleared w (l .i) (l .inv .0) (omega arith)
 
 pub clear-spec : {M : Type 1} → statement M
 clear-spec =

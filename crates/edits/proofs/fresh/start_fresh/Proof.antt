@@ -25,7 +25,11 @@ slice-write-words : tie.Need-slice-write-words
 slice-write-words c = search needs
 
 slice-write-words-2 : tie.Need-slice-write-words-2
-slice-write-words-2 c = let w = now (c .before .before .before .before .before .args .words) in let p = c .before .before .before .before .before .pre .0 in let e : length (c .before .before .clear .last .0) ≡ length w = c .before .before .clear .kept .0 in simp length-set (omega arith)
+slice-write-words-2 c =
+    let w = now (c .before .before .before .before .before .args .words) in
+    let p = c .before .before .before .before .before .pre .0 in
+    let e : length (c .before .before .clear .last .0) ≡ length w = c .before .before .clear .kept .0 in
+    simp length-set (omega arith)
 
 mul-words : tie.Need-mul-words
 mul-words c = search needs
@@ -34,16 +38,28 @@ cast-words-2 : tie.Need-cast-words-2
 cast-words-2 c = search needs
 
 slice-write-words-3 : tie.Need-slice-write-words-3
-slice-write-words-3 c = let w = now (c .before .before .before .before .before .args .words) in let p = c .before .before .before .before .before .pre .0 in let e : length (c .before .before .clear .last .0) ≡ length w = c .before .before .clear .kept .0 in simp length-set (omega arith)
+slice-write-words-3 c =
+    let w = now (c .before .before .before .before .before .args .words) in
+    let p = c .before .before .before .before .before .pre .0 in
+    let e : length (c .before .before .clear .last .0) ≡ length w = c .before .before .clear .kept .0 in
+    simp length-set (omega arith)
 
 cast-words-3 : tie.Need-cast-words-3
 cast-words-3 c = search needs
 
 slice-write-words-4 : tie.Need-slice-write-words-4
-slice-write-words-4 c = let w = now (c .before .before .before .before .before .args .words) in let p = c .before .before .before .before .before .pre .0 in let e : length (c .before .before .clear .last .0) ≡ length w = c .before .before .clear .kept .0 in simp length-set (omega arith)
+slice-write-words-4 c =
+    let w = now (c .before .before .before .before .before .args .words) in
+    let p = c .before .before .before .before .before .pre .0 in
+    let e : length (c .before .before .clear .last .0) ≡ length w = c .before .before .clear .kept .0 in
+    simp length-set (omega arith)
 
 slice-write-words-5 : tie.Need-slice-write-words-5
-slice-write-words-5 c = let w = now (c .before .before .before .before .before .args .words) in let p = c .before .before .before .before .before .pre .0 in let e : length (c .before .before .clear .last .0) ≡ length w = c .before .before .clear .kept .0 in simp length-set (omega arith)
+slice-write-words-5 c =
+    let w = now (c .before .before .before .before .before .args .words) in
+    let p = c .before .before .before .before .before .pre .0 in
+    let e : length (c .before .before .clear .last .0) ≡ length w = c .before .before .clear .kept .0 in
+    simp length-set (omega arith)
 
 sub-words : tie.Need-sub-words
 sub-words c = search needs
@@ -52,7 +68,11 @@ cast-words-4 : tie.Need-cast-words-4
 cast-words-4 c = search needs
 
 slice-write-words-6 : tie.Need-slice-write-words-6
-slice-write-words-6 c = let w = now (c .before .before .before .before .before .args .words) in let p = c .before .before .before .before .before .pre .0 in let e : length (c .before .before .clear .last .0) ≡ length w = c .before .before .clear .kept .0 in simp length-set (omega arith)
+slice-write-words-6 c =
+    let w = now (c .before .before .before .before .before .args .words) in
+    let p = c .before .before .before .before .before .pre .0 in
+    let e : length (c .before .before .clear .last .0) ≡ length w = c .before .before .clear .kept .0 in
+    simp length-set (omega arith)
 
 add-words : tie.Need-add-words
 add-words c = search needs
@@ -61,13 +81,21 @@ mul-words-2 : tie.Need-mul-words-2
 mul-words-2 c = search needs
 
 slice-write-words-7 : tie.Need-slice-write-words-7
-slice-write-words-7 c = let w = now (c .before .before .before .before .before .args .words) in let p = c .before .before .before .before .before .pre .0 in let e : length (c .before .before .clear .last .0) ≡ length w = c .before .before .clear .kept .0 in simp length-set (omega arith)
+slice-write-words-7 c =
+    let w = now (c .before .before .before .before .before .args .words) in
+    let p = c .before .before .before .before .before .pre .0 in
+    let e : length (c .before .before .clear .last .0) ≡ length w = c .before .before .clear .kept .0 in
+    simp length-set (omega arith)
 
 same-length : tie.Need-same-length
 same-length c = search needs
 
 returns : tie.Need-returns
-returns c = let w = now (c .before .before .before .before .before .args .words) in let p = c .before .before .before .before .before .pre .0 in let e : length (c .before .before .clear .last .0) ≡ length w = c .before .before .clear .kept .0 in rw (c .before .before .clear .ensures) (started (c .before .before .before .before .before .args .v) w (c .before .before .before .before .before .args .extra) (p .whole) (p .some) (c .before .before .before .before .before .pre .1))
+returns c =
+    let w = now (c .before .before .before .before .before .args .words) in
+    let p = c .before .before .before .before .before .pre .0 in
+    let e : length (c .before .before .clear .last .0) ≡ length w = c .before .before .clear .kept .0 in
+    rw (c .before .before .clear .ensures) (started (c .before .before .before .before .before .args .v) w (c .before .before .before .before .before .args .extra) (p .whole) (p .some) (c .before .before .before .before .before .pre .1))
 
 pub start-fresh-spec : {M : Type 1} → statement M
 start-fresh-spec =

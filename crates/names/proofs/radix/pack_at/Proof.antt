@@ -22,7 +22,9 @@ shared-slice-read-pack-3 : tie.Need-shared-slice-read-pack-3
 shared-slice-read-pack-3 c = let p = legal-parts _ (c .before .before .before .before .pre .0) in omega (arith, p .nine)
 
 pack-requires : tie.Need-pack-requires
-pack-requires c κs = let s = c .before .before .before .before in (legal-in _ (s .pre .0) _ (omega arith), legal-in _ (s .pre .0) _ (omega arith), legal-in _ (s .pre .0) _ (omega arith))
+pack-requires c κs =
+    let s = c .before .before .before .before in
+    (legal-in _ (s .pre .0) _ (omega arith), legal-in _ (s .pre .0) _ (omega arith), legal-in _ (s .pre .0) _ (omega arith))
 
 returns : tie.Need-returns
 unfolding packedAt

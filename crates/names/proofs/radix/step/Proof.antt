@@ -1,4 +1,4 @@
--- `step` meets its contract: each arm and each test in it is one case of `stepOf`.
+-- `step` meets its contract: each arm and each test in it is one case of `fieldStep`.
 use borrow.Author.Needs.{needs}
 use mathlib.Core.Path.{sym, _∙_}
 use borrow.Author.Tests.{eq-eqb, ne-eqb}

@@ -1,7 +1,5 @@
 -- `sum_lengths` meets its contract. The loop's invariant: the sum so far and the lengths ahead are the whole sum.
-use borrow.Author.Needs.{needs}
 use native.Mathlib.Omega.{arith}
-use mathlib.Core.Path.{_≡_, refl, sym, ap, _∙_}
 use denote.Ref.{now}
 use lib.ListN.{drop}
 use Prim.Native.Nat.{_+_, _≤_}
@@ -9,8 +7,6 @@ use Rattle.segment.proofs.Slots.{mul-less}
 use Rattle.render.proofs.Counting.{Summing, summing, total-more, total-none}
 use Rattle.render.proofs.measure.sum_lengths.Statement.{statement}
 use Rattle.render.proofs.measure.sum_lengths.Tie as tie
-use Rattle.render.proofs.measure.sum_lengths.Reads as reads
-use Rattle.render.proofs.measure.sum_lengths.Lts as lts
 
 abbrev Inv-loop : tie.InvT-loop
 Inv-loop segment width count sum₀ left₀ word₀ sum left word = Summing segment width count left word sum
@@ -23,43 +19,33 @@ slot-fits c =
     let l = c .before .loop in
     omega (arith, l .inv .room, mul-less (l .left) (c .before .before .args .width) (c .loop-test .taken))
 
--- src/measure.rt:52:5
 loop-holds : tie.Need-loop-holds Inv-loop μ-loop
 loop-holds c = let a = c .args in summing (now (a .segment)) (a .width) (a .count) (c .pre .0) (c .pre .2)
 
--- src/measure.rt:53:24
 add-sum : tie.Need-add-sum Inv-loop μ-loop
 add-sum c = omega (arith, slot-fits c)
 
--- src/measure.rt:53:16
 mul-sum : tie.Need-mul-sum Inv-loop μ-loop
 mul-sum c = omega (arith, slot-fits c)
 
--- src/measure.rt:53:16
 shared-slice-read-sum : tie.Need-shared-slice-read-sum Inv-loop μ-loop
 shared-slice-read-sum c = omega (arith, slot-fits (c .before))
 
--- src/measure.rt:53:16
 cast-sum : tie.Need-cast-sum Inv-loop μ-loop
 cast-sum c = omega (arith, c .shared-slice-known .given (c .before .before .loop .word + 4))
 
--- src/measure.rt:53:9
 add-sum-2 : tie.Need-add-sum-2 Inv-loop μ-loop
 add-sum-2 c = let l = c .before .before .loop in omega (arith, l .inv .small, l .inv .few, c .shared-slice-known .given (l .word + 4))
 
--- src/measure.rt:54:9
 add-word : tie.Need-add-word Inv-loop μ-loop
 add-word c = omega (arith, slot-fits (c .before))
 
--- src/measure.rt:55:9
 sub-left : tie.Need-sub-left Inv-loop μ-loop
 sub-left c = omega arith
 
--- src/measure.rt:52:5
 loop-less : tie.Need-loop-less Inv-loop μ-loop
 loop-less c = omega arith
 
--- src/measure.rt:52:5
 loop-again : tie.Need-loop-again Inv-loop μ-loop
 loop-again c =
     let a = c .before .before .before .args in
@@ -72,7 +58,6 @@ loop-again c =
       same = omega (arith, l .inv .same, total-more (now (a .segment)) (a .width) (l .left) (l .word) t (omega arith));
     }
 
--- src/measure.rt:45:1
 returns : tie.Need-returns Inv-loop μ-loop
 returns c =
     let a = c .before .before .args in

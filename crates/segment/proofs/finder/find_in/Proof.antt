@@ -5,7 +5,8 @@ use Prim.Native.Nat.{_+_, _≤_}
 use native.Mathlib.Omega.{arith}
 use mathlib.Core.Path.{sym, ap, _∙_}
 use denote.Ref.{now}
-use Rattle.segment.specs.Finder.{keyed, foundOf}
+use Rattle.meaning.specs.Keys.{holds}
+use Rattle.segment.specs.Finder.{foundOf}
 use Rattle.segment.proofs.Slots.{mul-less}
 use Rattle.segment.proofs.Searching.{Searching, starts, search-end, search-hit, search-miss, search-none, hit-place}
 use Rattle.segment.proofs.finder.find_in.Statement.{statement}
@@ -49,7 +50,7 @@ returns c =
     let l = c .before .before .before .before .loop in
     let h = c .before .before .before .loop-test .taken in
     let e =
-    search-end (keyed (a .key)) (a .width) (a .number) (now (a .segment)) (l .left) (l .word) (l .slot) (l .at) (l .block)
+    search-end (holds (a .key)) (a .width) (a .number) (now (a .segment)) (l .left) (l .word) (l .slot) (l .at) (l .block)
     h (omega arith)
     (sym (c .before .is-marker .ensures) ∙ c .if1 .taken) in
     record { is = sym (ap foundOf e) ∙ l .inv .same; inside = tt }
@@ -81,7 +82,7 @@ returns-2 c =
     let l = c .before .before .before .before .before .before .before .before .loop in
     let h = c .before .before .before .before .before .before .before .loop-test .taken in
     let e =
-    search-hit (keyed (a .key)) (a .width) (a .number) (now (a .segment)) (l .left) (l .word) (l .slot) (l .at) (l .block)
+    search-hit (holds (a .key)) (a .width) (a .number) (now (a .segment)) (l .left) (l .word) (l .slot) (l .at) (l .block)
     h (omega arith)
     (sym (c .before .before .before .before .before .is-marker .ensures) ∙ c .before .before .before .before .if1 .left)
     (sym (c .before .before .before .slot-keyed .ensures) ∙ c .before .before .if2 .taken) in
@@ -131,7 +132,7 @@ loop-again c =
     let l = c .before .before .before .before .before .before .before .loop in
     let h = c .before .before .before .before .before .before .loop-test .taken in
     let e =
-    search-miss (keyed (a .key)) (a .width) (a .number) (now (a .segment)) (l .left) (l .word) (l .slot) (l .at) (l .block)
+    search-miss (holds (a .key)) (a .width) (a .number) (now (a .segment)) (l .left) (l .word) (l .slot) (l .at) (l .block)
     h (omega arith)
     (sym (c .before .before .before .before .is-marker .ensures) ∙ c .before .before .before .if1 .left)
     (sym (c .before .before .slot-keyed .ensures) ∙ c .before .if2 .left) in
@@ -148,7 +149,7 @@ returns-3 c =
     let a = c .before .before .before .args in
     let l = c .before .loop in
     let e =
-    search-none (keyed (a .key)) (a .width) (a .number) (now (a .segment)) (l .left) (l .word) (l .slot) (l .at) (l .block)
+    search-none (holds (a .key)) (a .width) (a .number) (now (a .segment)) (l .left) (l .word) (l .slot) (l .at) (l .block)
     (c .loop-test .left) in
     record { is = sym (ap foundOf e) ∙ l .inv .same; inside = tt }
 

@@ -10,11 +10,11 @@ returns c = simp (lt-ltb _ _ (c .if1 .taken))
 
 returns-2 : tie.Need-returns-2
 unfolding longName
-returns-2 c = simp (le-ltb _ _ (c .before .if1 .left), lt-ltb _ _ (c .if2 .taken))
+returns-2 c = simp (le-ltb _ _ (c .before .before .if1 .left), lt-ltb _ _ (c .if2 .taken))
 
 returns-3 : tie.Need-returns-3
 unfolding longName
-returns-3 c = simp (le-ltb _ _ (c .before .if1 .left), le-ltb _ _ (c .if2 .left))
+returns-3 c = rw (le-ltb _ _ (c .before .before .before .if1 .left), le-ltb _ _ (c .before .if2 .left))
 
 pub long-name-spec : {M : Type 1} → statement M
 long-name-spec = tie.close (tie.spec returns returns-2 returns-3)

@@ -1,40 +1,14 @@
 -- `slot_step` meets its contract: the words read are the slot's own (`step-words`), and the slot has all that are read.
 use borrow.Author.Needs.{needs}
+use mathlib.Core.Path.{sym}
 use native.Mathlib.Omega.{arith}
 use denote.Ref.{now}
 use Rattle.segment.proofs.Scanning.{step-words}
 use Rattle.segment.proofs.scan.slot_step.Statement.{statement}
 use Rattle.segment.proofs.scan.slot_step.Tie as tie
 
-add-long-name : tie.Need-add-long-name
-add-long-name c = search needs
-
-mul-long-name : tie.Need-mul-long-name
-mul-long-name c = search needs
-
-shared-slice-read-long-name : tie.Need-shared-slice-read-long-name
-shared-slice-read-long-name c = search needs
-
-add-long-name-2 : tie.Need-add-long-name-2
-add-long-name-2 c = search needs
-
-mul-long-name-2 : tie.Need-mul-long-name-2
-mul-long-name-2 c = search needs
-
-shared-slice-read-long-name-2 : tie.Need-shared-slice-read-long-name-2
-shared-slice-read-long-name-2 c = search needs
-
-add-long-name-3 : tie.Need-add-long-name-3
-add-long-name-3 c = search needs
-
-mul-long-name-3 : tie.Need-mul-long-name-3
-mul-long-name-3 c = search needs
-
-shared-slice-read-long-name-3 : tie.Need-shared-slice-read-long-name-3
-shared-slice-read-long-name-3 c = search needs
-
-long-name-requires : tie.Need-long-name-requires
-long-name-requires c κs = search needs
+name-at-requires : tie.Need-name-at-requires
+name-at-requires c κs = search needs
 
 mul-step-by : tie.Need-mul-step-by
 mul-step-by c = search needs
@@ -56,23 +30,15 @@ step-by-requires c κs = search needs
 
 returns : tie.Need-returns
 returns c =
-    let a = c .before .before .before .before .before .before .before .before .args in
-    cc (step-words (now (a .segment)) (a .word) (a .width) (a .owed) (omega arith))
+    let a = c .before .before .before .before .before .args in
+    let e = step-words (now (a .segment)) (a .word) (a .width) (a .owed) (omega arith) in
+    rw (c .step-by .ensures, c .before .before .before .name-at .ensures) (sym e)
 
 pub slot-step-spec : {M : Type 1} → statement M
 slot-step-spec =
     tie.close
     (tie.spec
-    add-long-name
-    mul-long-name
-    shared-slice-read-long-name
-    add-long-name-2
-    mul-long-name-2
-    shared-slice-read-long-name-2
-    add-long-name-3
-    mul-long-name-3
-    shared-slice-read-long-name-3
-    long-name-requires
+    name-at-requires
     mul-step-by
     shared-slice-read-step-by
     add-step-by

@@ -1,94 +1,76 @@
--- `step_by` meets its contract: each arm and each test in it is one case of `stepBy`.
+-- `step_by` meets its contract: the first test that holds tells the kind, and then the step is that kind's.
 use borrow.Author.Needs.{needs}
 use mathlib.Core.Path.{sym, _∙_}
+use Rattle.meaning.specs.Kinds.{kindOf}
+use Rattle.meaning.specs.Sound.{longName}
+use Rattle.walks.proofs.Told.{permanent-kind, empty-kind, tentative-kind, end-kind, no-kind}
+use Rattle.segment.proofs.Scanning.{due-bad}
 use Rattle.segment.proofs.scan.step_by.Statement.{statement}
 use Rattle.segment.proofs.scan.step_by.Tie as tie
 
-kind-of-requires : tie.Need-kind-of-requires
-kind-of-requires c κs = search needs
+is-permanent-requires : tie.Need-is-permanent-requires
+is-permanent-requires c κs = search needs
 
-enum-told : tie.Need-enum-told
-enum-told c = search needs
+named-step-requires : tie.Need-named-step-requires
+named-step-requires c κs = search needs
 
 returns : tie.Need-returns
-returns c = rw (sym (c .before .before .before .kind-of .ensures) ∙ c .before .enum-told .given .1, c .if1 .taken)
+returns c =
+    rw (permanent-kind (kindOf (c .before .before .before .args .status)) (sym (c .before .before .is-permanent .ensures) ∙ c .before .if1 .taken)) (c .named-step .ensures)
 
-enum-told-2 : tie.Need-enum-told-2
-enum-told-2 c = search needs
-
-enum-told-3 : tie.Need-enum-told-3
-enum-told-3 c = search needs
+is-empty-requires : tie.Need-is-empty-requires
+is-empty-requires c κs = search needs
 
 returns-2 : tie.Need-returns-2
-returns-2 c = rw (sym (c .before .before .before .kind-of .ensures) ∙ c .before .enum-told3 .given .1, c .if2 .taken)
+returns-2 c =
+    rw (empty-kind (kindOf (c .before .before .before .before .args .status)) (sym (c .before .is-empty .ensures) ∙ c .if2 .taken))
+
+is-tentative-requires : tie.Need-is-tentative-requires
+is-tentative-requires c κs = search needs
+
+named-step-requires-2 : tie.Need-named-step-requires-2
+named-step-requires-2 c κs = search needs
 
 returns-3 : tie.Need-returns-3
 returns-3 c =
-    rw (
-      sym (c .before .before .before .before .kind-of .ensures) ∙ c .before .before .enum-told3 .given .1,
-      c .before .if2 .left,
-      c .if3 .taken,
-    )
-
-enum-told-4 : tie.Need-enum-told-4
-enum-told-4 c = search needs
+    rw (tentative-kind (kindOf (c .before .before .before .before .before .before .before .args .status)) (sym (c .before .before .is-tentative .ensures) ∙ c .before .if3 .taken)) (c .named-step2 .ensures)
 
 returns-4 : tie.Need-returns-4
-returns-4 c = rw (sym (c .before .before .before .kind-of .ensures) ∙ c .before .enum-told4 .given .1, c .if4 .taken)
+returns-4 c =
+    let p = sym (c .before .before .before .before .before .before .is-permanent .ensures) ∙ c .before .before .before .before .before .if1 .left in
+    let e = sym (c .before .before .before .before .is-empty .ensures) ∙ c .before .before .before .if2 .left in
+    let t = sym (c .before .before .is-tentative .ensures) ∙ c .before .if3 .left in
+    let s = c .before .before .before .before .before .before .before in
+    rw (c .if4 .taken) (due-bad (kindOf (s .args .status)) (longName (s .args .name)) (s .args .blocks) p e t)
+
+is-marker-requires : tie.Need-is-marker-requires
+is-marker-requires c κs = search needs
 
 returns-5 : tie.Need-returns-5
 returns-5 c =
-    rw (
-      sym (c .before .before .before .before .kind-of .ensures) ∙ c .before .before .enum-told4 .given .1,
-      c .before .if4 .left,
-      c .if5 .taken,
-    )
-
-enum-told-5 : tie.Need-enum-told-5
-enum-told-5 c = search needs
+    rw (end-kind (kindOf (c .before .before .before .before .before .before .before .before .before .args .status)) (sym (c .before .is-marker .ensures) ∙ c .if5 .taken), c .before .before .if4 .left)
 
 returns-6 : tie.Need-returns-6
-returns-6 c = rw (sym (c .before .before .before .kind-of .ensures) ∙ c .before .enum-told .given .1, c .if1 .left)
-
-returns-7 : tie.Need-returns-7
-returns-7 c = rw (sym (c .before .before .kind-of .ensures) ∙ c .enum-told2 .given .1)
-
-returns-8 : tie.Need-returns-8
-returns-8 c =
-    rw (
-      sym (c .before .before .before .before .kind-of .ensures) ∙ c .before .before .enum-told3 .given .1,
-      c .before .if2 .left,
-      c .if3 .left,
-    )
-
-returns-9 : tie.Need-returns-9
-returns-9 c =
-    rw (
-      sym (c .before .before .before .before .kind-of .ensures) ∙ c .before .before .enum-told4 .given .1,
-      c .before .if4 .left,
-      c .if5 .left,
-    )
-
-returns-10 : tie.Need-returns-10
-returns-10 c = rw (sym (c .before .before .kind-of .ensures) ∙ c .enum-told5 .given .1)
+returns-6 c =
+    let p = sym (c .before .before .before .before .before .before .before .before .is-permanent .ensures) ∙ c .before .before .before .before .before .before .before .if1 .left in
+    let e = sym (c .before .before .before .before .before .before .is-empty .ensures) ∙ c .before .before .before .before .before .if2 .left in
+    let t = sym (c .before .before .before .before .is-tentative .ensures) ∙ c .before .before .before .if3 .left in
+    let m = sym (c .before .is-marker .ensures) ∙ c .if5 .left in
+    rw (no-kind (kindOf (c .before .before .before .before .before .before .before .before .before .args .status)) p e t m)
 
 pub step-by-spec : {M : Type 1} → statement M
 step-by-spec =
     tie.close
     (tie.spec
-    kind-of-requires
-    enum-told
+    is-permanent-requires
+    named-step-requires
     returns
-    enum-told-2
-    enum-told-3
+    is-empty-requires
     returns-2
+    is-tentative-requires
+    named-step-requires-2
     returns-3
-    enum-told-4
     returns-4
+    is-marker-requires
     returns-5
-    enum-told-5
-    returns-6
-    returns-7
-    returns-8
-    returns-9
-    returns-10)
+    returns-6)

@@ -15,9 +15,11 @@ enum-known-run c = search needs
 
 put-run-requires : tie.Need-put-run-requires
 put-run-requires c κs =
-    let a = c .before .before .before .before .before .before .before .before .args in
-    let h = c .before .before .before .before .before .before .before .before .pre in
-    let run = c .before .before .before .before .run in
+    let c1 = c .before .before .before .before in
+    let c2 = c1 .before .before .before .before in
+    let a = c2 .args in
+    let h = c2 .pre in
+    let run = c1 .run in
     let b = behind (now (a .segment)) (now (a .out)) (a .width) (a .place) (a .run) _ _ _ (run .given .1) 512 (h .behind) in
     let w = h .wide in
     let m = h .whole in
@@ -38,17 +40,21 @@ returns c =
 
 returns-2 : tie.Need-returns-2
 returns-2 c =
-    let a = c .before .before .before .before .before .before .before .args in
-    let run = c .before .before .before .run in
+    let c1 = c .before .before .before in
+    let c2 = c1 .before .before .before .before in
+    let a = c2 .args in
+    let run = c1 .run in
     let zero = c .before .if1 in
     let held = c .if2 in
     zero-left (now (a .segment)) (now (a .out)) (a .width) (a .place) (a .run) _ _ _ (run .given .1) (zero .taken) (held .left)
 
 put-run-requires-2 : tie.Need-put-run-requires-2
 put-run-requires-2 c κs =
-    let a = c .before .before .before .before .before .before .before .args in
-    let h = c .before .before .before .before .before .before .before .pre in
-    let run = c .before .before .before .run in
+    let c1 = c .before .before .before in
+    let c2 = c1 .before .before .before .before in
+    let a = c2 .args in
+    let h = c2 .pre in
+    let run = c1 .run in
     let b = behind (now (a .segment)) (now (a .out)) (a .width) (a .place) (a .run) _ _ _ (run .given .1) 512 (h .behind) in
     let w = h .wide in
     let m = h .whole in

@@ -45,11 +45,15 @@ same-length c = search needs
 
 returns-2 : tie.Need-returns-2
 returns-2 c =
-    let a = c .before .before .before .before .before .before .before .before .before .before .before .before .before .args in
-    let h = c .before .before .before .before .before .before .before .before .before .before .before .before .before .pre in
-    let empty = c .before .before .before .before .before .before .before .before .before .is-empty in
-    let area = c .before .before .before .before .before .before .before .before .if1 in
-    let flushed = c .before .before .before .before .before .before .flush in
+    let c1 = c .before .before .before .before .before .before in
+    let c2 = c1 .before .before in
+    let c3 = c2 .before in
+    let c4 = c3 .before .before .before .before in
+    let a = c4 .args in
+    let h = c4 .pre in
+    let empty = c3 .is-empty in
+    let area = c2 .if1 in
+    let flushed = c1 .flush in
     let copied = c .before .before .copy-slot in
     let b = left-bound (now (a .segment)) (a .run) (a .width) (a .place) (a .word) (omega arith) (h .0 .behind) in
     other-out (now (a .segment)) (a .width) (a .word) (a .run) (h .0 .wide) (now (a .out)) _ _ (a .place) _ _ (omega arith)

@@ -1,0 +1,93 @@
+-- What was found, and the row behind it: a place that was found is that of a row of the directory, so its numbers fit words. Each is by
+-- the cases of what was found.
+use Prim.Native.Nat.{ℕ, _+_, _≤_}
+use native.Mathlib.Omega.{arith}
+use mathlib.Core.Path.{_≡_, refl, ap}
+use mathlib.Core.Bool.{false}
+use mathlib.Core.List.{List, [], _∷_}
+use mathlib.Core.Option.{Option, none, some}
+use Rattle.meaning.specs.declared.Answer.{Answer}
+use Rattle.meaning.specs.Kinds.{emptyStatus}
+use Rattle.meaning.specs.Words.{statusWord, Row, rows}
+use Rattle.meaning.specs.Sound.{fault}
+use Rattle.meaning.specs.Answers.{Outcome, refuse, success, onRow, isNone, find, fileOf, openOn, put, write}
+use Rattle.meaning.specs.Requests.{successWith, emptying}
+use Rattle.meaning.specs.declared.Name.{Name}
+use Rattle.meaning.specs.declared.Key.{Key}
+use Rattle.meaning.specs.declared.Key.the-variants.{File, Open}
+use Rattle.meaning.specs.Keys.{holds}
+use Rattle.segment.specs.declared.finder.Place.{Place}
+use Rattle.segment.specs.declared.finder.Found.{Found}
+use Rattle.segment.specs.declared.finder.Found.the-variants.{At, Nothing}
+use Rattle.segment.specs.Finder.{placeOf, foundOf, Inside}
+use Rattle.laws.proofs.Grown.{row-ends}
+use Rattle.find.specs.Find.{answerAt, emptied}
+
+abbrev pub answer-of : Outcome → Answer
+answer-of o = o .answer
+
+abbrev pub words-of : Outcome → List ℕ
+words-of o = o .words
+
+-- a row behind a place that was found
+pub record Behind (o : Option Row) (p : Place) : Type 0 where
+  pub row : Row
+  pub is : o ≡ some row
+  pub place : placeOf row ≡ p
+
+pub found-some : (o : Option Row) (p : Place) → foundOf o ≡ At p → Behind o p
+found-some none p e = absurd (let z : _≡_ {A = ℕ} 0 1 = cc in omega arith)
+found-some (some r) p e = record { row = r; is = refl; place = cc }
+
+pub found-none : (o : Option Row) → foundOf o ≡ Nothing → o ≡ none
+found-none none e = refl
+found-none (some r) e = absurd (let z : _≡_ {A = ℕ} 0 1 = cc in omega arith)
+
+-- a place that was found in a sound directory has a first block that fits a word
+pub first-fits : (v : ℕ) (d : List ℕ) → fault v d ≡ 0 → (key : Key) (p : Place) → foundOf (find (holds key) (rows d)) ≡ At p → p .first ≤ 65535
+first-fits v d h key p e =
+    let b = found-some (find (holds key) (rows d)) p e in
+    let l = row-ends v d h (holds key) (b .row) (b .is) in
+    let q : b .row .first ≡ p .first = ap (λ (x : Place). x .first) (b .place) in
+    omega arith
+
+-- the file of a name, and the tentative entry on a channel word, as they were looked for
+pub file-found : (d : List ℕ) (n : Name) (p : Place) → foundOf (find (holds (File n)) (rows d)) ≡ At p → Behind (fileOf d n) p
+unfolding fileOf
+file-found d n p e = found-some (find (holds (File n)) (rows d)) p e
+
+pub file-some : (d : List ℕ) (n : Name) (p : Place) → foundOf (find (holds (File n)) (rows d)) ≡ At p → isNone (fileOf d n) ≡ false
+file-some d n p e = rw (file-found d n p e .is)
+
+pub file-none : (d : List ℕ) (n : Name) → foundOf (find (holds (File n)) (rows d)) ≡ Nothing → fileOf d n ≡ none
+unfolding fileOf
+file-none d n e = found-none (find (holds (File n)) (rows d)) e
+
+pub open-found : (d : List ℕ) (x : ℕ) (p : Place) → foundOf (find (holds (Open x)) (rows d)) ≡ At p → Behind (openOn d x) p
+unfolding openOn
+open-found d x p e = found-some (find (holds (Open x)) (rows d)) p e
+
+pub open-none : (d : List ℕ) (x : ℕ) → foundOf (find (holds (Open x)) (rows d)) ≡ Nothing → openOn d x ≡ none
+unfolding openOn
+open-none d x e = found-none (find (holds (Open x)) (rows d)) e
+
+-- a place that was found lies in the directory
+pub place-inside : (f : Found) (w n : ℕ) (p : Place) → f ≡ At p → Inside f w n → p .at + w ≤ n
+place-inside f w n p e h = rw e at h
+
+-- delete and abandon, by what was found
+pub emptied-at : (d : List ℕ) (key : Key) (missing : ℕ) (p : Place) → foundOf (find (holds key) (rows d)) ≡ At p
+    → emptied d key missing ≡ record { answer = answerAt p; words = write d (put (p .at) statusWord emptyStatus ∷ []) }
+unfolding emptied successWith success emptying
+emptied-at d key missing p e = go (find (holds key) (rows d)) e
+  where
+    go : (o : Option Row) → foundOf o ≡ At p
+        → onRow missing o d (λ r. successWith r (write d (emptying r)))
+        ≡ record { answer = answerAt p; words = write d (put (p .at) statusWord emptyStatus ∷ []) }
+    go none q = absurd (let z : _≡_ {A = ℕ} 0 1 = cc in omega arith)
+    go (some r) q = let l : placeOf r ≡ p = cc in rw (← l)
+
+pub emptied-none : (d : List ℕ) (key : Key) (missing : ℕ) → foundOf (find (holds key) (rows d)) ≡ Nothing
+    → emptied d key missing ≡ refuse missing d
+unfolding emptied
+emptied-none d key missing e = rw (found-none (find (holds key) (rows d)) e)

@@ -1,0 +1,73 @@
+-- `empty_found` meets its contract: what was found is what the meaning finds, and its status is the one write (`emptied-at`); where nothing
+-- was found no word is written (`emptied-none`).
+use borrow.Author.Needs.{needs}
+use native.Mathlib.Omega.{arith}
+use mathlib.Core.Path.{refl, sym, _∙_}
+use denote.Ref.{now}
+use Rattle.meaning.specs.Answers.{refuse}
+use Rattle.chain.proofs.Chains.{fault-chained}
+use Rattle.find.proofs.Behind.{first-fits, place-inside, emptied-at, emptied-none}
+use Rattle.find.proofs.found.empty_found.Statement.{statement}
+use Rattle.find.proofs.found.empty_found.Tie as tie
+
+find-entry-requires : tie.Need-find-entry-requires
+find-entry-requires c κs = let s = c .before .before in fault-chained (s .args .v) (now (s .args .d)) (s .pre)
+
+enum-known-found : tie.Need-enum-known-found
+enum-known-found c = search needs
+
+make-empty-requires : tie.Need-make-empty-requires
+make-empty-requires c κs =
+    let l = place-inside _ _ _ _ (c .before .before .found .given .1) (c .before .before .before .before .find-entry .ensures .inside) in
+    omega arith
+
+answered-requires : tie.Need-answered-requires
+answered-requires c κs =
+    let f = c .before .before .before .before .before .before .before in
+    let s = f .before .before .before in
+    first-fits (s .args .v) (now (s .args .d)) (s .pre) (s .args .key) _
+    (sym (f .find-entry .ensures .is) ∙ c .before .before .before .before .before .found .given .1)
+
+enum-told : tie.Need-enum-told
+enum-told c = search needs
+
+refused-requires : tie.Need-refused-requires
+refused-requires c κs = search needs
+
+same-length : tie.Need-same-length
+same-length c = search needs
+
+returns : tie.Need-returns
+returns c =
+    let f = c .before .before .before .before .before .before .before .before in
+    let s = f .before .before .before in
+    let e = sym (f .find-entry .ensures .is) ∙ c .before .before .before .before .before .before .found .given .1 in
+    rw (emptied-at (now (s .args .d)) (s .args .key) (s .args .missing) _ e)
+    (record { answer = c .answered .ensures; words = c .before .before .before .make-empty .ensures })
+
+same-length-2 : tie.Need-same-length-2
+same-length-2 c = search needs
+
+returns-2 : tie.Need-returns-2
+unfolding refuse
+returns-2 c =
+    let f = c .before .before .before in
+    let s = f .before .before .before in
+    let e = sym (f .find-entry .ensures .is) ∙ c .before .enum-told .given .1 in
+    rw (emptied-none (now (s .args .d)) (s .args .key) (s .args .missing) e)
+    (record { answer = c .refused .ensures; words = refl })
+
+pub empty-found-spec : {M : Type 1} → statement M
+empty-found-spec =
+    tie.close
+    (tie.spec
+    find-entry-requires
+    enum-known-found
+    make-empty-requires
+    answered-requires
+    enum-told
+    refused-requires
+    same-length
+    returns
+    same-length-2
+    returns-2)

@@ -1,0 +1,132 @@
+//! Before anything is timed: both sides must give the same answers and leave the same words, on random requests on small volumes of all
+//! forms and on damaged directories.
+use crate::ours;
+use crate::volumes::{head_file, Random};
+use ordinary::{Answer, Name, Op, Request, ROOM};
+
+/// How many requests a volume gets.
+const REQUESTS: usize = 500;
+
+/// One request through the door of each side.
+fn serve(d: &mut [u16], e: &mut [u16], v: usize, r: &Request) -> (Answer, Answer) {
+    match r.op {
+        Op::Lookup => (ours::lookup(d, v, r.name), ordinary::lookup(e, v, r.name)),
+        Op::Enter => (
+            ours::enter(d, v, r.name, r.size, r.job, r.channel, r.date),
+            ordinary::enter(e, v, r.name, r.size, r.job, r.channel, r.date),
+        ),
+        Op::Close => (ours::close(d, v, r.job, r.channel, r.final_length), ordinary::close(e, v, r.job, r.channel, r.final_length)),
+        Op::Abandon => (ours::abandon(d, v, r.job, r.channel), ordinary::abandon(e, v, r.job, r.channel)),
+        Op::Delete => (ours::delete(d, v, r.name), ordinary::delete(e, v, r.name)),
+        Op::Rename => (ours::rename(d, v, r.name, r.new_name), ordinary::rename(e, v, r.name, r.new_name)),
+    }
+}
+
+/// A name out of few, so that names meet; seldom an illegal one.
+fn few(random: &mut Random) -> Name {
+    let word = |random: &mut Random| if random.below(200) == 0 { random.below(65536) as u16 } else { 1600 * (1 + random.below(12) as u16) };
+    Name { first: word(random), second: [0, 1600][random.below(2)], extension: word(random) }
+}
+
+fn request(random: &mut Random) -> Request {
+    use Op::*;
+    const OPS: [Op; 12] = [Enter, Enter, Enter, Enter, Close, Close, Close, Close, Abandon, Delete, Rename, Lookup];
+    let size = match random.below(20) {
+        0 => [-3, -2, 65535, 65536][random.below(4)],
+        1 => -1,
+        2 | 3 => 0,
+        _ => random.below(8) as i32 + 1,
+    };
+    Request {
+        op: OPS[random.below(OPS.len())],
+        name: few(random),
+        new_name: few(random),
+        job: [0, 2, 2, 0, 0, 0, 1][random.below(7)],
+        channel: random.below(17) as u16,
+        size,
+        final_length: random.below(6) as i32 - (random.below(9) == 0) as i32,
+        date: [0, 0, 3556, 3556, 3556, 3556, 65535, 2 * 1024 + 29 * 32 + 1][random.below(8)],
+    }
+}
+
+fn same_listing(d: &[u16], v: usize, rooms: &mut [Box<[u8; ROOM]>; 2]) {
+    let file = head_file(d, v as u16);
+    let lengths = (ours::listing(&file, &mut rooms[0]), ordinary::listing(&file, &mut rooms[1]));
+    assert_eq!(lengths.0, lengths.1, "the listings differ in length");
+    assert!(rooms[0][..] == rooms[1][..], "the listings differ");
+}
+
+/// A few words changed, to what may or may not be a fault.
+fn damage(d: &[u16], random: &mut Random) -> Vec<u16> {
+    const WORDS: [u16; 12] = [0, 1, 2, 3, 256, 512, 1024, 2048, 63999, 64000, 65535, 14];
+    let mut e = d.to_vec();
+    for _ in 0..1 + random.below(3) {
+        let near = [6, 60, 512, e.len()][random.below(4)];
+        let at = (512 * random.below(e.len() / 512) + random.below(near)) % e.len();
+        e[at] = match random.below(4) {
+            0 => random.below(65536) as u16,
+            1 => e[at] ^ 1 << random.below(16),
+            2 => e[random.below(d.len())],
+            _ => WORDS[random.below(WORDS.len())],
+        };
+    }
+    e
+}
+
+fn same_faults(d: &[u16], v: usize, random: &mut Random, rooms: &mut [Box<[u8; ROOM]>; 2], seen: &mut [usize; 7]) {
+    let e = damage(d, random);
+    let u = if random.below(8) == 0 { random.below(70000) } else { v };
+    let part = &e[..e.len() - (random.below(30) == 0) as usize];
+    let number = ours::fault(part, u);
+    assert_eq!(number, ordinary::fault(part, u), "the faults differ");
+    seen[number as usize] += 1;
+    same_listing(&e, v, rooms);
+}
+
+/// One volume, started afresh, and some hundred requests. Answers its segments in use.
+fn same_volume(random: &mut Random, rooms: &mut [Box<[u8; ROOM]>; 2], seen: &mut [usize; 19], faults: &mut [usize; 7]) -> u16 {
+    let (n, extra) = (1 + random.below(5), [0, 0, 1, 10, 16][random.below(5)]);
+    let span = [20, 200, 3000][random.below(3)];
+    let v = 6 + 2 * n + random.below(span);
+    let (mut d, mut e) = (vec![7; 512 * n], vec![7; 512 * n]);
+    assert_eq!(ours::fresh(&mut d, v, extra), ordinary::fresh(&mut e, v, extra), "the fresh starts differ");
+    assert_eq!(d, e);
+    for _ in 0..REQUESTS {
+        let r = request(random);
+        let (x, y) = serve(&mut d, &mut e, v, &r);
+        assert_eq!(x, y, "the answers differ, of {r:?}");
+        assert!(d == e, "the words differ after {r:?}");
+        seen[x.number as usize] += 1;
+        if random.below(8) == 0 {
+            same_faults(&d, v, random, rooms, faults);
+        }
+    }
+    same_listing(&d, v, rooms);
+    same_batch(&mut d, v, random);
+    d[2]
+}
+
+fn same_batch(d: &mut [u16], v: usize, random: &mut Random) {
+    let requests: Vec<Request> = (0..random.below(40)).map(|_| request(random)).collect();
+    let room = vec![Answer { number: 99, ..Answer::default() }; requests.len() + (random.below(9) == 0) as usize];
+    let (mut e, mut f) = (d.to_vec(), d.to_vec());
+    let (mut x, mut y, mut z) = (room.clone(), room.clone(), room);
+    let number = ours::run(d, v, &requests, &mut x);
+    assert_eq!(number, ordinary::run(&mut e, v, &requests, &mut y), "the batches differ");
+    assert_eq!(number, ordinary::run_each(&mut f, v, &requests, &mut z), "the batches differ");
+    assert!(x == y && d == e && x == z && d == f, "the batches differ in answers or words");
+}
+
+/// Panics where the two sides differ. Says how often each number was answered.
+pub fn agree(volumes: usize) {
+    let mut random = Random(1976);
+    let mut rooms = [Box::new([b'#'; ROOM]), Box::new([b'#'; ROOM])];
+    let (mut seen, mut faults, mut splits) = ([0; 19], [0; 7], 0);
+    for _ in 0..volumes {
+        splits += same_volume(&mut random, &mut rooms, &mut seen, &mut faults) as usize - 1;
+    }
+    let damaged: usize = faults.iter().sum();
+    println!("The same answers and words: {} random requests, {splits} splits, {damaged} damaged directories.", REQUESTS * volumes);
+    assert!(faults[1..].iter().all(|&k| k > 0), "a fault was never met: {faults:?}");
+    assert!([0, 7, 8, 9, 10, 11, 12, 13, 14, 15, 16].iter().all(|&k| seen[k] > 0), "a number was never answered: {seen:?}");
+}

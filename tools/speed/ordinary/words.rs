@@ -1,0 +1,71 @@
+//! The words of a directory: statuses, segments, entries, and the tests of names, channels and dates.
+use crate::Name;
+
+pub const TENTATIVE: u16 = 256;
+pub const EMPTY: u16 = 512;
+pub const PERMANENT: u16 = 1024;
+pub const END: u16 = 2048;
+
+/// The words of a slot.
+pub fn width_of(d: &[u16]) -> usize {
+    7 + d[3] as usize / 2
+}
+
+/// The entries that a segment can hold; the marker takes a slot.
+pub fn capacity(width: usize) -> usize {
+    507 / width - 1
+}
+
+pub fn segment(d: &[u16], number: usize) -> &[u16; 512] {
+    d[512 * (number - 1)..].first_chunk().unwrap()
+}
+
+pub fn segment_mut(d: &mut [u16], number: usize) -> &mut [u16; 512] {
+    d[512 * (number - 1)..].first_chunk_mut().unwrap()
+}
+
+/// The slots of a segment, each as its first seven words.
+pub fn slots(g: &[u16; 512], width: usize) -> impl Iterator<Item = &[u16; 7]> {
+    g[5..].chunks_exact(width).map(|slot| slot.first_chunk().unwrap())
+}
+
+/// Four words as one number, the first the lowest: a load of eight bytes. The one unsafe line, since safe Rust makes four loads of it; any
+/// eight bytes are a u64.
+#[allow(unsafe_code)]
+pub fn four(words: [u16; 4]) -> u64 {
+    u64::from_le(unsafe { core::mem::transmute::<[u16; 4], u64>(words) })
+}
+
+fn codes(word: u16) -> [u16; 3] {
+    [word / 1600, word / 40 % 40, word % 40]
+}
+
+/// Letters and digits, then spaces alone.
+fn padded(chars: &[u16]) -> bool {
+    let used = chars.iter().position(|&c| c == 0).unwrap_or(chars.len());
+    chars[..used].iter().all(|&c| c <= 26 || c >= 30) && chars[used..].iter().all(|&c| c == 0)
+}
+
+pub fn is_legal_name(name: Name) -> bool {
+    if name.first > 63999 || name.second > 63999 || name.extension > 63999 {
+        return false;
+    }
+    let ([a, b, c], [d, e, f]) = (codes(name.first), codes(name.second));
+    a != 0 && padded(&[a, b, c, d, e, f]) && padded(&codes(name.extension))
+}
+
+pub fn is_channel(job: u16, channel: u16) -> bool {
+    (job == 0 || job == 2) && channel <= 15
+}
+
+/// Day, month and year of a date word that names a calendar day.
+pub fn day_of(word: u16) -> Option<(u16, u16, u16)> {
+    const DAYS: [u16; 16] = [0, 31, 28, 31, 30, 31, 30, 31, 31, 30, 31, 30, 31, 0, 0, 0];
+    let (month, day, year) = (word >> 10, word >> 5 & 31, 1972 + (word & 31));
+    if month > 12 {
+        return None;
+    }
+    let leap = year % 4 == 0; // of 1972 to 2003, as 2000 is one
+    let days = DAYS[month as usize] + (month == 2 && leap) as u16;
+    (day >= 1 && day <= days).then_some((day, month, year))
+}

@@ -1,0 +1,75 @@
+//! The proved routines, from the archive that `rt staticlib` wrote. A slice goes as its pointer and its length. Sixteen bits come back in a
+//! register whose upper half may be anything, hence u32 and a cast.
+use ordinary::{Answer, Name, Request, ROOM};
+
+extern "C" {
+    fn our_fault(d: *const u16, len: usize, v: usize) -> u32;
+    fn our_fresh(d: *mut u16, len: usize, v: usize, extra: usize, out: &mut Answer);
+    fn our_lookup(d: *const u16, len: usize, v: usize, a: u16, b: u16, c: u16, out: &mut Answer);
+    fn our_delete(d: *mut u16, len: usize, v: usize, a: u16, b: u16, c: u16, out: &mut Answer);
+    fn our_rename(d: *mut u16, len: usize, v: usize, a: u16, b: u16, c: u16, x: u16, y: u16, z: u16, out: &mut Answer);
+    fn our_enter(d: *mut u16, len: usize, v: usize, a: u16, b: u16, c: u16, n: i32, job: u16, channel: u16, date: u16, out: &mut Answer);
+    fn our_close(d: *mut u16, len: usize, v: usize, job: u16, channel: u16, n: i32, out: &mut Answer);
+    fn our_abandon(d: *mut u16, len: usize, v: usize, job: u16, channel: u16, out: &mut Answer);
+    fn our_listing(file: *const u8, len: usize, out: *mut u8) -> usize;
+    // Not exported, since it takes records: called as the proved code calls it, where a slice goes as a pointer to both.
+    #[link_name = "batch::run"]
+    fn our_batch(d: &Lent<u16>, v: usize, requests: &Lent<Request>, answers: &Lent<Answer>) -> u32;
+}
+
+#[repr(C)]
+struct Lent<T> {
+    first: *const T,
+    len: usize,
+}
+
+pub fn fault(d: &[u16], v: usize) -> u16 {
+    unsafe { our_fault(d.as_ptr(), d.len(), v) as u16 }
+}
+
+fn answer(give: impl FnOnce(&mut Answer)) -> Answer {
+    let mut out = Answer::default();
+    give(&mut out);
+    out
+}
+
+pub fn fresh(d: &mut [u16], v: usize, extra: usize) -> Answer {
+    answer(|out| unsafe { our_fresh(d.as_mut_ptr(), d.len(), v, extra, out) })
+}
+
+pub fn lookup(d: &[u16], v: usize, n: Name) -> Answer {
+    answer(|out| unsafe { our_lookup(d.as_ptr(), d.len(), v, n.first, n.second, n.extension, out) })
+}
+
+pub fn delete(d: &mut [u16], v: usize, n: Name) -> Answer {
+    answer(|out| unsafe { our_delete(d.as_mut_ptr(), d.len(), v, n.first, n.second, n.extension, out) })
+}
+
+pub fn rename(d: &mut [u16], v: usize, n: Name, m: Name) -> Answer {
+    let (p, len) = (d.as_mut_ptr(), d.len());
+    answer(|out| unsafe { our_rename(p, len, v, n.first, n.second, n.extension, m.first, m.second, m.extension, out) })
+}
+
+pub fn enter(d: &mut [u16], v: usize, n: Name, size: i32, job: u16, channel: u16, date: u16) -> Answer {
+    let (p, len) = (d.as_mut_ptr(), d.len());
+    answer(|out| unsafe { our_enter(p, len, v, n.first, n.second, n.extension, size, job, channel, date, out) })
+}
+
+pub fn close(d: &mut [u16], v: usize, job: u16, channel: u16, length: i32) -> Answer {
+    answer(|out| unsafe { our_close(d.as_mut_ptr(), d.len(), v, job, channel, length, out) })
+}
+
+pub fn abandon(d: &mut [u16], v: usize, job: u16, channel: u16) -> Answer {
+    answer(|out| unsafe { our_abandon(d.as_mut_ptr(), d.len(), v, job, channel, out) })
+}
+
+pub fn listing(file: &[u8], out: &mut [u8; ROOM]) -> usize {
+    unsafe { our_listing(file.as_ptr(), file.len(), out.as_mut_ptr()) }
+}
+
+pub fn run(d: &mut [u16], v: usize, requests: &[Request], answers: &mut [Answer]) -> u16 {
+    let words = Lent { first: d.as_mut_ptr().cast_const(), len: d.len() };
+    let asked = Lent { first: requests.as_ptr(), len: requests.len() };
+    let room = Lent { first: answers.as_mut_ptr().cast_const(), len: answers.len() };
+    unsafe { our_batch(&words, v, &asked, &room) as u16 }
+}
