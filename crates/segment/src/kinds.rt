@@ -8,8 +8,8 @@ use meaning::TENTATIVE;
 ghost use mathlib.Core.Path.{_≡_};
 ghost use Rattle.meaning.specs.Kinds.{kindOf, isTentative, isEmpty, isPermanent, isEnd};
 
-// A comparison each, and no `match` of all four: the numbers are powers of two, for which the compiler counts zero bits instead, and a walk
-// that asks for one kind takes half as long again.
+// A comparison each, and no `match` of all four: the numbers are powers of two, for which the compiler counts zero bits instead, and walks
+// that ask for one kind take longer (docs/DECISIONS.md has the measurement).
 pub fn is_tentative(status: u16) -> bool
     ensures { λ r. ⌜ r ≡ isTentative (kindOf status) ⌝ }
 {
