@@ -1,81 +1,116 @@
-"""What crates/bench must write: document 01's ten bench examples, a line for each, worked out by hand from its text and its rules.
-
-    python3 model/bench.py > crates/bench/stdout
-
-An answer is number, first block, length, date; a slot is status and length (256 tentative, 512 empty, 1024 permanent, 2048 the marker).
+"""Document 01's ten bench examples as records of a case file. What the document says of each is tested here against the model, so a slip
+in the model shows when the file is made. There is nothing to run here: cases.py uses it.
 """
+from names import date_word, date_of, word_of_day
+from rt11 import CLOSE, EMPTY, ENTER, FIRST, HIGHEST, LENGTH, LINK, LOOKUP, PERMANENT, RENAME, SEGMENT_WORDS, STATUS, TENTATIVE
+from rt11 import Request, entries, first_data_block, header, named, rendered, rows
 
-DATE = 3 * 1024 + 15 * 32 + (1976 - 1972)
-OPEN, AREA, FILE = 256, 512, 1024
-MARKER, NOTHING = "2048 0", "0 0"
-
-
-def first_data(segments):
-    return 6 + 2 * segments
+DAY, LOG = named("DAY.CHG"), named("LOG.CHG")
+DATE = date_word(date_of(15, 3, 1976))
 
 
-def done(first, length, date):
-    return f"0 {first} {length} {date}"
+def expect(answer, number, first=0, length=0, date=0):
+    assert (answer.number, answer.first, answer.length, answer.date) == (number, first, length, date), answer
 
 
-def refused(number):
-    return f"refusal {number} 0 0 0"
+def expect_entries(case, *expected):
+    """Status and length of each entry of the present directory."""
+    found = [(row.entry[STATUS], row.entry[LENGTH]) for row in rows(case.words)]
+    assert found == list(expected), found
 
 
-def slots(*entries):
-    """Four slots: the entries, then the marker, then zeros."""
-    shown = [f"{status} {length}" for status, length in entries] + [MARKER] + [NOTHING] * 4
-    return "slots " + ", ".join(shown[:4])
+def enter(case, name, size, channel, date=DATE):
+    return case.serve(Request(ENTER, name, channel=channel, size=size, date=date))
 
 
-def code(letter):
-    return " ABCDEFGHIJKLMNOPQRSTUVWXYZ".index(letter)
+def close(case, channel, final_length):
+    return case.serve(Request(CLOSE, channel=channel, final_length=final_length))
 
 
-def packed(three):
-    return code(three[0]) * 1600 + code(three[1]) * 40 + code(three[2])
+def start(case, segments, v):
+    """A fresh start over words that are all 65,535."""
+    case.load([65_535] * SEGMENT_WORDS * segments, v)
+    return case.fresh(0)
 
 
-# 1: DAY CHG is 6465, 0, 5127
-words = [packed("DAY"), packed("   "), packed("CHG")]
-assert words == [6465, 0, 5127]
-print("1 DAY.CHG is", *words)
+def first_to_fifth(case):
+    # 1: DAY CHG is 6465, 0, 5127
+    assert DAY == (6465, 0, 5127)
+    # 2: 15 March 1976 is 3556; 29 February 1973 refused, also by enter where a word is made for it all the same
+    assert DATE == 3556
+    assert word_of_day(29, 2, 1973) == (9, 0)
+    # 3: fresh V=494, N=4, E=0: one area of 480 from 14
+    expect(start(case, 4, 494), 0, 14, 480)
+    expect_entries(case, (EMPTY, 480))
+    expect(enter(case, DAY, 30, 3, date=2 * 1024 + 29 * 32 + 1), 9)
+    # 4: then enter DAY.CHG, 30, job 0 channel 3, date 3556: first block 14, area 450
+    expect(enter(case, DAY, 30, 3), 0, 14, 30, 3556)
+    expect_entries(case, (TENTATIVE, 30), (EMPTY, 450))
+    # 5: at 31 refusal 16, and nothing has changed; then close at 12: area 468
+    expect(close(case, 3, 31), 16)
+    expect_entries(case, (TENTATIVE, 30), (EMPTY, 450))
+    expect(close(case, 3, 12), 0, 14, 12, 3556)
+    expect_entries(case, (PERMANENT, 12), (EMPTY, 468))
+    expect(case.serve(Request(LOOKUP, (6465, 0, 5127))), 0, 14, 12, 3556)
 
-# 2: 15 March 1976 is 3556; 29 February 1973 refused, and a date that isn't in the calendar answers 9
-assert DATE == 3556
-print(f"2 15 March 1976 is {DATE}; 29 February 1973: refusal 9")
 
-# 3: V=494, N=4: one area of 480 from 14
-start, whole = first_data(4), 494 - first_data(4)
-assert (start, whole) == (14, 480)
-print(f"3 fresh V=494 N=4 E=0: {done(start, whole, 0)}, {slots((AREA, whole))}")
+def tenth(case):
+    """On what the fifth left: rename to its own name is 14."""
+    expect(case.serve(Request(RENAME, DAY, DAY)), 14)
 
-# 4: DAY.CHG of 30 stands at 14, and the area has 450
-entered = slots((OPEN, 30), (AREA, whole - 30))
-print(f"4 enter DAY.CHG of 30: {done(start, 30, DATE)}, {entered}")
 
-# 5: at 31 refusal 16, and nothing has changed; at 12 the area has 468
-closed = slots((FILE, 12), (AREA, 468))
-print(f"5 close at 31: {refused(16)}, {entered}; close at 12: {done(start, 12, DATE)}, {closed}")
+def sixth(case):
+    """Instead of closing, enter 100 on channel 4: first block 44, entries 30, 0, 100, 350."""
+    start(case, 4, 494)
+    enter(case, DAY, 30, 3)
+    expect(enter(case, LOG, 100, 4), 0, 44, 100, 3556)
+    expect_entries(case, (TENTATIVE, 30), (EMPTY, 0), (TENTATIVE, 100), (EMPTY, 350))
 
-# 6: the second enter stands at 44, and the entries are 30, 0, 100, 350
-print(f"6 enter 100 on channel 4: {done(44, 100, DATE)}, {slots((OPEN, 30), (AREA, 0), (OPEN, 100), (AREA, 350))}")
 
-# 7: areas of 100 and 60 with a file of 5 between them: 60, in the first area, as the first that is long enough; one area of 7: 4
-larger = slots((OPEN, 60), (AREA, 100 - 60), (FILE, 5), (AREA, 60))
-alone = slots((OPEN, 4), (AREA, 7 - 4))
-print(f"7 size 0 in areas of 100 and 60: {done(start, 60, 0)}, {larger}; in one of 7: {done(start, 4, 0)}, {alone}")
+def loaded(case, segments, found):
+    """A directory with one segment in use, which holds these entries."""
+    first = first_data_block(segments)
+    words = rendered([segments, 0, 1, 0, first], found) + [0] * SEGMENT_WORDS * (segments - 1)
+    assert case.load(words, first + sum(entry[LENGTH] for entry in found)) == 0
 
-# 8: V=8, N=1: no data block; sound; the longest is refused with 11
-print(f"8 fresh V=8 N=1: {done(first_data(1), 0, 0)}, fault 0; enter -1: {refused(11)}")
 
-# 9: N=1, 70 files of one block and an area of 100: no slot, 12. With N=2, 35 stay and 36 move; the new entry stands before the area,
-# which is the last of them. Segment 1 has its 35th entry and the marker at its end; segment 2 its 35th file, the new entry, the area,
-# the marker
-data = first_data(2)
-one = f"segment 1 link and highest 2 2, its end {FILE} 1, {MARKER}"
-two = f"segment 2 total, link and first 2 0 {data + 35}, its end {FILE} 1, {OPEN} 1, {AREA} {100 - 1}, {MARKER}"
-print(f"9 71 entries N=1: {refused(12)}; N=2: {done(data + 70, 1, DATE)}, fault 0, {one}, {two}")
+def seventh(case):
+    """Size 0: in areas of 100 and 60, with a file of 5 between them, 60, which the first of them takes; in one area of 7, 4."""
+    loaded(case, 4, [[EMPTY, *DAY, 100, 0, DATE], [PERMANENT, *DAY, 5, 0, DATE], [EMPTY, *DAY, 60, 0, DATE]])
+    expect(enter(case, LOG, 0, 4, date=0), 0, 14, 60, 0)
+    expect_entries(case, (TENTATIVE, 60), (EMPTY, 40), (PERMANENT, 5), (EMPTY, 60))
+    expect(start(case, 4, 21), 0, 14, 7)
+    expect(enter(case, LOG, 0, 4, date=0), 0, 14, 4, 0)
+    expect_entries(case, (TENTATIVE, 4), (EMPTY, 3))
 
-# 10: a rename to its own name is 14
-print(f"10 rename DAY.CHG to DAY.CHG: {refused(14)}")
+
+def eighth(case):
+    """Fresh V=8, N=1: sound; enter -1 is refusal 11."""
+    expect(start(case, 1, 8), 0, 8, 0)
+    assert case.change() == 0
+    expect(enter(case, DAY, -1, 3), 11)
+
+
+def full_segment():
+    """71 entries: 70 files of one block, and an area of 100."""
+    names = [named(f"F{i:02}.CHG") for i in range(70)]
+    return [[PERMANENT, *name, 1, 0, DATE] for name in names] + [[EMPTY, *DAY, 100, 0, DATE]]
+
+
+def ninth(case):
+    """71 entries, one empty and long: 12 with N=1. With N=2: 35 stay, 36 move, then the new entry is inserted."""
+    loaded(case, 1, full_segment())
+    expect(enter(case, LOG, 1, 3), 12)
+    loaded(case, 2, full_segment())
+    expect(enter(case, LOG, 1, 3), 0, 80, 1, 3556)
+    one, two = entries(case.words, 1), entries(case.words, 2)
+    assert (len(one), len(two)) == (35, 37)
+    assert [entry[:5:4] for entry in two[-2:]] == [[TENTATIVE, 1], [EMPTY, 99]]
+    assert header(case.words, 1)[LINK] == header(case.words, 1)[HIGHEST] == 2
+    assert header(case.words, 2)[LINK] == 0 and header(case.words, 2)[FIRST] == 45
+    assert case.change() == 0
+
+
+def add(case):
+    for examples in first_to_fifth, tenth, sixth, seventh, eighth, ninth:
+        examples(case)

@@ -1,5 +1,5 @@
 #!/usr/bin/env python3
-"""A model of document 01's "Names and dates", written from its text alone, for the program crates/spell to be held to.
+"""A model of document 01's "Names and dates", written from its text alone, for the program crates/spell to be held to, and for rt11.py.
 
     python3 model/names.py
 
@@ -54,6 +54,9 @@ def is_legal_name(*words):
 
 
 # The calendar is Python's own; the table below holds every day that has a word.
+FIRST_YEAR, LAST_YEAR = 1972, 2003
+
+
 def date_of(day, month, year):
     try:
         return datetime.date(year, month, day)
@@ -62,20 +65,21 @@ def date_of(day, month, year):
 
 
 def date_word(date):
-    return date.month * 1024 + date.day * 32 + (date.year - 1972)
+    return date.month * 1024 + date.day * 32 + (date.year - FIRST_YEAR)
 
 
-FIRST_DAY, LAST_DAY = datetime.date(1972, 1, 1), datetime.date(2003, 12, 31)
-DATES = {}
-for ordinal in range(FIRST_DAY.toordinal(), LAST_DAY.toordinal() + 1):
-    one = datetime.date.fromordinal(ordinal)
-    DATES[date_word(one)] = one
+def all_days():
+    first, last = datetime.date(FIRST_YEAR, 1, 1), datetime.date(LAST_YEAR, 12, 31)
+    return map(datetime.date.fromordinal, range(first.toordinal(), last.toordinal() + 1))
+
+
+DATES = {date_word(day): day for day in all_days()}
 
 
 def word_of_day(day, month, year):
     """The number and the word."""
     date = date_of(day, month, year)
-    if date is None or not FIRST_DAY <= date <= LAST_DAY:
+    if date is None or not FIRST_YEAR <= date.year <= LAST_YEAR:
         return 9, 0
     return 0, date_word(date)
 

@@ -1,357 +1,181 @@
 #!/usr/bin/env python3
-"""A model of document 01's requests, written from its text alone, and random cases for the program crates/conformance to be held to.
+"""Random case files (docs/CASES.md), with the lines that a right program writes for them.
 
     python3 model/requests.py SEED COUNT CASES EXPECTED
 
-writes a case file of COUNT directories, most of them sound and dense, each with up to forty requests, and the lines that a right library
-prints for it. Then `target/bin/conformance < CASES | cmp - EXPECTED` (on Arm under the toolchain's emulator, as ./list runs its program).
+writes a case file of COUNT directories, most of them sound and dense, each with up to forty records of requests, batches and damages, and
+its lines. Then `target/bin/conformance < CASES | cmp - EXPECTED` (on Arm under the toolchain's emulator, as ./list runs its program).
 """
-import calendar
 import random
-import struct
 import sys
 
-from trials import EMPTY, END, PERMANENT, TENTATIVE, chain, entries, fault, is_legal, is_one_of_sizes, packed, segment, text
+from casefile import CaseFile
+from rt11 import ABANDON, CHANNEL, CHANNEL_LIMIT, CLOSE, DELETE, EMPTY, END, ENTER, EXTRA, JOBS, LENGTH, LOOKUP, NAME
+from rt11 import PERMANENT, RENAME, STATUS, TENTATIVE
+from rt11 import Request, entries, first_data_block, named
 
-LOOKUP, ENTER, CLOSE, ABANDON, DELETE, RENAME = range(1, 7)
-
-
-# -- Document 01 --
-
-
-def rows(words):
-    """Each entry in chain order, with the place of its first word and its first block."""
-    width = 7 + words[3] // 2
-    for number in chain(words):
-        block = segment(words, number)[4]
-        for slot, entry in enumerate(entries(words, segment(words, number))):
-            yield 512 * (number - 1) + 5 + width * slot, block, entry
-            block += entry[4]
-
-
-def file_of(words, name):
-    return next((row for row in rows(words) if row[2][0] == PERMANENT and tuple(row[2][1:4]) == name), None)
-
-
-def open_on(words, channel):
-    return next((row for row in rows(words) if row[2][0] == TENTATIVE and row[2][5] == channel), None)
-
-
-def has_space_inside(name):
-    return any(" " in part.rstrip(" ") for part in (text(name[0]) + text(name[1]), text(name[2])))
-
-
-def is_name(name):
-    return is_legal(name) and not has_space_inside(name)
-
-
-def is_date(word):
-    month, day, year = word >> 10, word >> 5 & 31, 1972 + (word & 31)
-    return word == 0 or 1 <= month <= 12 and 1 <= day <= calendar.monthrange(year, month)[1]
-
-
-def is_channel(job, channel):
-    return job in (0, 2) and channel <= 15
-
-
-def refused(number, words):
-    return (number, 0, 0, 0), words
-
-
-def succeeded(row, words, **changes):
-    _place, block, entry = row
-    return (0, block, changes.get("length", entry[4]), entry[6]), words
-
-
-def changed(words, *writes):
-    after = list(words)
-    for place, word in writes:
-        after[place] = word
-    return after
-
-
-def lookup(words, name):
-    if not is_name(name):
-        return refused(7, words)
-    row = file_of(words, name)
-    return succeeded(row, words) if row else refused(13, words)
-
-
-def delete(words, name):
-    if not is_name(name):
-        return refused(7, words)
-    row = file_of(words, name)
-    return succeeded(row, changed(words, (row[0], EMPTY))) if row else refused(13, words)
-
-
-def rename(words, name, new):
-    if not (is_name(name) and is_name(new)):
-        return refused(7, words)
-    row = file_of(words, name)
-    if not row:
-        return refused(13, words)
-    if file_of(words, new):
-        return refused(14, words)
-    return succeeded(row, changed(words, *((row[0] + 1 + i, new[i]) for i in range(3))))
-
-
-def abandon(words, job, channel):
-    if not is_channel(job, channel):
-        return refused(8, words)
-    row = open_on(words, job * 256 + channel)
-    return succeeded(row, changed(words, (row[0], EMPTY))) if row else refused(15, words)
-
-
-def close(words, job, channel, final):
-    if not is_channel(job, channel):
-        return refused(8, words)
-    row = open_on(words, job * 256 + channel)
-    if not row:
-        return refused(15, words)
-    place, _block, entry = row
-    if not 0 <= final <= entry[4]:
-        return refused(16, words)
-    grown = place + 7 + words[3] // 2 + 4
-    writes = [(place, PERMANENT), (place + 4, final), (place + 5, 0), (grown, words[grown] + entry[4] - final)]
-    old = file_of(words, tuple(entry[1:4]))
-    return succeeded(row, changed(words, *writes, *([(old[0], EMPTY)] if old else [])), length=final)
-
-
-def tidied(found):
-    """Runs of neighbouring empty entries joined; a zero sum dropped unless a tentative entry stands before it."""
-    joined, at = [], 0
-    while at < len(found):
-        end = at
-        while end < len(found) and found[end][0] == EMPTY:
-            end += 1
-        if end == at:
-            joined.append(list(found[at]))
-            at += 1
-            continue
-        total = sum(entry[4] for entry in found[at:end])
-        if total > 0 or joined and joined[-1][0] == TENTATIVE:
-            joined.append(found[at][:4] + [total] + found[at][5:])
-        at = end
-    return joined
-
-
-def rendered(header, found):
-    words = sum(found, list(header)) + [END]
-    return words + [0] * (512 - len(words))
-
-
-def areas(parts, capacity, may_split):
-    """Each area's segment, index, length, cost, and whether it is eligible."""
-    for number, found in parts.items():
-        for k, entry in enumerate(found):
-            if entry[0] == EMPTY:
-                cost = 2 if k > 0 and found[k - 1][0] == TENTATIVE else 1
-                yield number, k, entry[4], cost, entry[4] >= 1 and (len(found) + cost <= capacity or may_split)
-
-
-def wanted(size, lengths):
-    longest = lengths[0] if lengths else 1
-    if size == 0:
-        return max((longest + 1) // 2, lengths[1] if len(lengths) > 1 else 0)
-    return longest if size == -1 else size
-
-
-def inserted(found, k, cost, new):
-    width = len(new)
-    gap = [[EMPTY] + [0] * (width - 1)] if cost == 2 else []
-    area = found[k][:4] + [found[k][4] - new[4]] + found[k][5:]
-    return found[:k] + gap + [new, area] + found[k + 1 :]
-
-
-def placed(words, parts, number, k, cost, new):
-    """The new entry in its area: the segments that it changes, and where it begins."""
-    total, highest = words[0], words[2]
-    found, header = parts[number], words[512 * (number - 1) :][:5]
-    first = header[4] + sum(entry[4] for entry in found[:k])
-    if len(found) + cost <= 507 // len(new) - 1:
-        return {number: rendered(header, inserted(found, k, cost, new))}, highest, first
-    kept = len(found) // 2
-    if kept > 0 and found[kept - 1][0] == TENTATIVE:
-        kept += 1
-    old, moved = found[:kept], found[kept:]
-    if k < kept:
-        old = inserted(old, k, cost, new)
-    else:
-        moved = inserted(moved, k - kept, cost, new)
-    start = header[4] + sum(entry[4] for entry in found[:kept])
-    return {
-        number: rendered([header[0], highest + 1] + header[2:], old),
-        highest + 1: rendered([total, header[1], 0, header[3], start], moved),
-    }, highest + 1, first
-
-
-def enter(words, name, size, job, channel, date):
-    if not is_name(name):
-        return refused(7, words)
-    if not is_channel(job, channel):
-        return refused(8, words)
-    if not -1 <= size <= 65_535 or not is_date(date):
-        return refused(9, words)
-    word = job * 256 + channel
-    if open_on(words, word):
-        return refused(10, words)
-    width = 7 + words[3] // 2
-    before = {number: entries(words, segment(words, number)) for number in chain(words)}
-    parts = {number: tidied(found) for number, found in before.items()}
-    all_areas = list(areas(parts, 507 // width - 1, words[2] < words[0]))
-    least = max(size, 1)
-    if not any(area[2] >= least for area in all_areas):
-        return refused(11, words)
-    if not any(area[2] >= least and area[4] for area in all_areas):
-        return refused(12, words)
-    length = wanted(size, sorted((area[2] for area in all_areas if area[4]), reverse=True))
-    number, k, _length, cost, _eligible = next(area for area in all_areas if area[4] and area[2] >= length)
-    new = [TENTATIVE, *name, length, word, date] + [0] * (width - 7)
-    made, highest, first = placed(words, parts, number, k, cost, new)
-    made = {n: rendered(words[512 * (n - 1) :][:5], parts[n]) for n in parts if parts[n] != before[n]} | made
-    after = list(words)
-    for n, part in made.items():
-        after[512 * (n - 1) : 512 * n] = part
-    after[2] = highest
-    return (0, first, length, date), after
-
-
-def fresh(words, v, extra):
-    if not is_one_of_sizes(words, v):
-        return refused(1, words)
-    if extra > 16:
-        return refused(2, words)
-    n = len(words) // 512
-    first = 6 + 2 * n
-    part = rendered([n, 0, 1, 2 * extra, first], [[EMPTY, 0, 0, 0, v - first, 0, 0] + [0] * extra])
-    return (0, first, v - first, 0), part + [0] * (512 * (n - 1))
-
-
-def serve(words, v, op, name, new, job, channel, size, final, date):
-    number = fault(words, v)
-    if number:
-        return refused(number, words)
-    return {
-        LOOKUP: lambda: lookup(words, name),
-        ENTER: lambda: enter(words, name, size, job, channel, date),
-        CLOSE: lambda: close(words, job, channel, final),
-        ABANDON: lambda: abandon(words, job, channel),
-        DELETE: lambda: delete(words, name),
-        RENAME: lambda: rename(words, name, new),
-    }[op]()
-
-
-# -- Random cases --
-
-NAMES = [
-    tuple(packed((first + extension)[i : i + 3]) for i in (0, 3, 6))
-    for first in ("A     ", "B     ", "AB    ", "ABCD  ", "FILE  ", "F1    ", "LONGER")
-    for extension in ("   ", "X  ", "CHG")
-]
+FIRST_PARTS = "A", "B", "AB", "ABCD", "FILE", "F1", "LONGER"
+NAMES = [named(f"{first}.{extension}") for first in FIRST_PARTS for extension in ("", "X", "CHG")]
 # blank, above 63,999, a space first or inside, a dollar sign, code 29
 BAD_NAMES = [(0, 0, 0), (64_000, 0, 0), (1600, 64_000, 0), (40, 0, 0), (1600, 1600, 0), (43_200, 0, 0), (1600, 0, 29)]
+OPS = [ENTER] * 4 + [CLOSE] * 3 + [DELETE] * 2 + [LOOKUP, ABANDON, RENAME]
 
 
-class Cases:
-    def __init__(self, seed):
-        self.random = random.Random(seed)
-        self.words, self.lines = [], []
+def entries_of(words):
+    """The entries of segment 1, where the words make any."""
+    return entries(words, 1) if len(words) >= 512 and words[EXTRA] <= 32 else []
 
-    def some_word(self):
-        return self.random.randrange(65_536)
 
-    def some_name(self):
-        return self.random.choice(NAMES if self.random.random() < 0.93 else BAD_NAMES)
+class Chance(random.Random):
+    """What comes by chance."""
 
-    def entries_of_some_kind(self, extra, names, channels):
-        """One entry, or a tentative one with its area."""
-        r, length = self.random, self.random.choice([0, 0, 1, 2, self.random.randint(0, 40)])
-        rest = [self.some_word() for _ in range(extra)]
-        empty = [EMPTY, self.some_word(), self.some_word(), 0, length, r.randrange(9), self.some_word()] + rest
-        kind = r.choice([PERMANENT, PERMANENT, EMPTY, EMPTY, TENTATIVE])
-        name, channel = r.choice(NAMES), r.choice([0, 512]) + r.randrange(16)
-        if name in names:
-            name = tuple(r.randrange(64_000) for _ in range(3))
-        if kind == EMPTY or kind == PERMANENT and name in names or channel in channels:
-            return [empty]
-        if kind == TENTATIVE:
-            channels.add(channel)
-            return [[TENTATIVE, *name, length, channel, self.some_word()] + rest, empty]
-        names.add(name)
-        return [[PERMANENT, *name, length, r.randrange(9), r.choice([0, 3556, self.some_word()])] + rest]
+    def word(self):
+        return self.randrange(65_536)
+
+    def name(self, words):
+        """Often that of a file."""
+        kind = self.random()
+        if kind < 0.05:
+            return self.choice(BAD_NAMES)
+        files = [tuple(entry[NAME]) for entry in entries_of(words) if entry[STATUS] == PERMANENT]
+        return self.choice(files if files and kind < 0.5 else NAMES)
+
+    def channel(self, words, op):
+        """Job and channel; those of an open file are seldom what an enter asks for, but often a close or an abandon."""
+        if self.random() < 0.05:
+            return self.choice([(1, 0), (3, 3), (0, CHANNEL_LIMIT + 1), (2, CHANNEL_LIMIT + 1), (65_535, 0), (0, 65_535)])
+        taken = [divmod(entry[CHANNEL], 256) for entry in entries_of(words) if entry[STATUS] == TENTATIVE]
+        if taken and self.random() < (0.1 if op == ENTER else 0.8):
+            return self.choice(taken)
+        return self.choice(JOBS), self.randrange(CHANNEL_LIMIT + 1)
+
+    def request(self, words):
+        op = self.choice(OPS)
+        job, channel = self.channel(words, op)
+        return Request(
+            op,
+            self.name(words),
+            self.name(words),
+            job=job,
+            channel=channel,
+            size=self.choice([-1, 0, 0, 1, 1, 2, 2, 3, 3, self.randint(1, 60), self.choice([-2, 65_535, 65_536])]),
+            final_length=self.choice([0, 1, 2, self.randint(0, 50), -1, 65_536]),
+            date=self.choice([0, 3556, 3556, 3556, self.word()]),
+        )
+
+    def rest(self, extra):
+        return [self.word() for _ in range(extra)]
+
+    def length(self):
+        return self.choice([0, 0, 1, 2, self.randint(0, 40)])
+
+    def area(self, extra):
+        return [EMPTY, self.word(), self.word(), 0, self.length(), self.randrange(9), self.word()] + self.rest(extra)
+
+    def file(self, extra, taken):
+        """A permanent entry of a name that is not taken yet."""
+        name = self.choice(NAMES)
+        while name in taken:
+            name = tuple(self.randrange(64_000) for _ in range(3))
+        taken.add(name)
+        return [PERMANENT, *name, self.length(), self.randrange(9), self.choice([0, 3556, self.word()])] + self.rest(extra)
+
+    def open_file(self, extra, taken):
+        """A tentative entry, of any name, on a channel that is not taken yet, with its area; or an area alone."""
+        name, channel = self.choice(NAMES), self.choice(JOBS) * 256 + self.randrange(CHANNEL_LIMIT + 1)
+        if channel in taken:
+            return [self.area(extra)]
+        taken.add(channel)
+        return [[TENTATIVE, *name, self.length(), channel, self.word()] + self.rest(extra), self.area(extra)]
+
+    def some_entry(self, extra, taken, has_file):
+        """A file; or an area, or an open file with its area."""
+        if has_file:
+            return [self.file(extra, taken)]
+        return [self.area(extra)] if self.random() < 0.6 else self.open_file(extra, taken)
+
+    def entries(self, count, extra, taken, files, is_tidy):
+        """With a chance of so many in five of a file. In a tidy segment no two areas are neighbours, and no length is 0."""
+        found = []
+        while len(found) < count:
+            is_behind_area = found and found[-1][STATUS] == EMPTY
+            more = self.some_entry(extra, taken, self.randrange(5) < files or is_tidy and is_behind_area)
+            found += more if len(found) + len(more) <= count else [self.file(extra, taken)]
+        for entry in found:
+            entry[LENGTH] = max(entry[LENGTH], int(is_tidy))
+        return found
 
     def sound_directory(self):
         """Words that are sound, often with full segments, and their V."""
-        r = self.random
-        n = r.choice([1, 1, 2, 3, 6])
-        highest, extra = r.randint(1, n), r.choice([0, 0, 1, 16, r.randint(0, 16)])
-        width = 7 + extra
-        capacity = 507 // width - 1
-        order = [1] + r.sample(range(2, highest + 1), highest - 1)
-        words = [r.choice([0, 0, self.some_word()]) for _ in range(512 * n)]
-        block, names, channels = 6 + 2 * n, set(), set()
+        n = self.choice([1, 2, 2, 3, 5])
+        highest, extra = self.randint(1, n), self.choice([0, 0, 1, 16, self.randint(0, 16)])
+        most = 507 // (7 + extra) - 1
+        order = [1] + self.sample(range(2, highest + 1), highest - 1)
+        words = [self.choice([0, 0, self.word()]) for _ in range(512 * n)]
+        block, taken = first_data_block(n), set()
+        files, is_tidy = self.choice([1, 2, 3, 4]), self.random() < 0.6
         for number, link in zip(order, order[1:] + [0]):
-            at, found = 512 * (number - 1), []
-            count = r.choice([capacity, capacity, capacity - 1, r.randint(0, capacity)])
-            while len(found) < count - 1:
-                found += self.entries_of_some_kind(extra, names, channels)
-            part = sum(found, [n, link, highest if number == 1 else r.randrange(9), 2 * extra, block]) + [END]
+            count = self.choice([most, most, most, most - 1, self.randint(0, most)])
+            found = self.entries(count, extra, taken, files, is_tidy)
+            head = [n, link, highest if number == 1 else self.randrange(9), 2 * extra, block]
+            part = sum(found, head) + [END]
+            at = 512 * (number - 1)
             words[at : at + len(part)] = part
-            block += sum(entry[4] for entry in found)
+            block += sum(entry[LENGTH] for entry in found)
         return words, block
 
-    def any_directory(self):
-        r = self.random
-        if r.random() < 0.1:
-            n = r.choice([1, 2, 4])
-            return [self.some_word() for _ in range(512 * n)], r.choice([6 + 2 * n, r.randrange(70_000)])
-        words, v = self.sound_directory()
-        if r.random() < 0.05:
-            words[r.randrange(len(words))] = self.some_word()
-        return words, v
-
-    def put(self, *words):
-        self.words += [word & 65_535 for word in words]
-
-    def answer(self, answer, words):
-        a, b = 1, 0
-        for word in words:
-            a = (a + word) % 65_521
-            b = (b + a) % 65_521
-        self.lines.append(" ".join(map(str, (*answer, b * 65_536 + a))))
-
-    def request(self, words, v):
-        r = self.random
-        if r.random() < 0.02:
-            extra = r.randrange(19)
-            self.put(2, extra)
-            return fresh(words, v, extra)
-        op = r.choice([ENTER] * 4 + [CLOSE] * 3 + [DELETE] * 2 + [LOOKUP, ABANDON, RENAME])
-        name, new, job, channel = self.some_name(), self.some_name(), r.choice([0, 0, 0, 2, 2, 1]), r.choice([r.randrange(16)] * 9 + [16])
-        size = r.choice([-1, 0, 0, 1, 2, 3, r.randint(1, 60), -2, 65_535, 65_536])
-        final, date = r.choice([0, 1, 2, r.randint(0, 50), -1, 65_536]), r.choice([0, 3556, 3556, self.some_word()])
-        self.put(3, op, *name, *new, job, channel, size, size >> 16, final, final >> 16, date)
-        return serve(words, v, op, name, new, job, channel, size, final, date)
+    def absurd_directory(self):
+        n = self.choice([1, 2, 4])
+        return [self.word() for _ in range(512 * n)], self.choice([first_data_block(n), self.randrange(70_000)])
 
     def directory(self):
-        words, v = self.any_directory()
-        self.put(1, v, v >> 16, len(words), *words)
-        self.lines.append(f"fault {fault(words, v)}")
-        for _ in range(self.random.randint(1, 40)):
-            answer, words = self.request(words, v)
-            self.answer(answer, words)
+        return self.absurd_directory() if self.random() < 0.08 else self.sound_directory()
+
+
+def add_batch(case, chance):
+    requests = [chance.request(case.words) for _ in range(chance.randrange(9))]
+    case.batch(requests, chance.choice([len(requests)] * 5 + [chance.randrange(9)]))
+
+
+def add_damage(case, chance):
+    """One word changed, a request, and the word put back."""
+    at = chance.randrange(len(case.words))
+    old = case.words[at]
+    case.change((at, chance.choice([old ^ 1, 512, 1024, 2048, chance.word()])))
+    case.serve(chance.request(case.words))
+    if chance.random() < 0.8:
+        case.change((at, old))
+
+
+def add_record(case, chance):
+    kind = chance.random()
+    if kind < 0.02:
+        case.fresh(chance.randrange(19))
+    elif kind < 0.06:
+        add_batch(case, chance)
+    elif kind < 0.09:
+        add_damage(case, chance)
+    else:
+        case.serve(chance.request(case.words))
+
+
+def add(case, seed, count):
+    chance = Chance(seed)
+    for _ in range(count):
+        case.load(*chance.directory())
+        for _ in range(chance.randint(1, 40)):
+            add_record(case, chance)
 
 
 def main():
     seed, count, cases_path, expected_path = sys.argv[1:]
-    cases = Cases(int(seed))
-    for _ in range(int(count)):
-        cases.directory()
-    cases.put(0)
+    case = CaseFile()
+    add(case, int(seed), int(count))
+    case.end()
     with open(cases_path, "wb") as file:
-        file.write(struct.pack(f"<{len(cases.words)}H", *cases.words))
-    with open(expected_path, "w") as file:
-        file.write("".join(line + "\n" for line in cases.lines))
+        file.write(case.record_bytes())
+    with open(expected_path, "wb") as file:
+        file.write(case.line_bytes())
 
 
 if __name__ == "__main__":

@@ -1,35 +1,31 @@
-"""A sample head file: document 01's volume after example 5's close at 12, word by word from its text.
+#!/usr/bin/env python3
+"""The sample head file, document 01's volume after example 5's close at 12, and its listing.
 
-    python3 model/sample.py > samples/day.rvh
+    python3 model/sample.py
+
+writes samples/day.rvh and samples/day.txt. The words come from the requests of rt11.py.
 """
-import struct
-import sys
+import pathlib
 
-SEGMENTS, VOLUME, EXTRA = 4, 494, 0
-FIRST = 6 + 2 * SEGMENTS  # data blocks run from 6+2N
+from rt11 import CLOSE, ENTER, Request, fresh, head_file, listing, named, serve
 
-
-def radix50(text):
-    """Three characters make first·1600 + second·40 + third."""
-    codes = " ABCDEFGHIJKLMNOPQRSTUVWXYZ$.?0123456789"
-    first, second, third = (codes.index(c) for c in text)
-    return first * 1600 + second * 40 + third
+SAMPLES = pathlib.Path(__file__).resolve().parent.parent / "samples"
+SEGMENTS, VOLUME = 4, 494
 
 
-def date_word(day, month, year):
-    return month * 1024 + day * 32 + (year - 1972)
+def day():
+    """Examples 3, 4 and 5: a fresh start, DAY.CHG entered with 30 blocks, and closed at 12."""
+    _answer, words = fresh([0] * 512 * SEGMENTS, VOLUME, 0)
+    _answer, words = serve(words, VOLUME, Request(ENTER, named("DAY.CHG"), channel=3, size=30, date=3556))
+    _answer, words = serve(words, VOLUME, Request(CLOSE, channel=3, final_length=12))
+    return words
 
 
-def entry(status, name, length, date):
-    """Status, name in two words, extension, length, channel word, date."""
-    return [status, *(radix50(name[i : i + 3]) for i in (0, 3, 6)), length, 0, date]
+def main():
+    file = head_file(day(), VOLUME)
+    (SAMPLES / "day.rvh").write_bytes(file)
+    (SAMPLES / "day.txt").write_text(listing(file))
 
 
-# example 3: one area of V-6-2N from the first data block; 4: DAY.CHG of 30; 5: closed at 12, and the area has all the rest
-area = VOLUME - FIRST - 12
-header = [SEGMENTS, 0, 1, 2 * EXTRA, FIRST]
-words = header + entry(1024, "DAY   CHG", 12, date_word(15, 3, 1976)) + entry(512, " " * 9, area, 0) + [2048]
-words += [0] * (512 * SEGMENTS - len(words))
-
-# the mark, version 1, V, the directory; all low byte first
-sys.stdout.buffer.write(b"RVH" + struct.pack(f"<{2 + len(words)}H", 1, VOLUME, *words))
+if __name__ == "__main__":
+    main()

@@ -13,9 +13,9 @@ use Rattle.meaning.specs.Sound.{bad1, bad2, bad3, fault}
 use Rattle.walks.specs.Links.{linked}
 use Rattle.walks.proofs.Heads.{sized, headed}
 use Rattle.walks.proofs.Linked.{bad3-walk}
+use Rattle.walks.proofs.Unbroken.{unbroken}
 use Rattle.chain.specs.Chained.{Chained}
 use Rattle.chain.specs.Head.{sizeWrong}
-use Rattle.chain.proofs.Faults.{first-three}
 
 -- rule 1 is a rule of the length, as code tests it
 pub size-is : (v : ℕ) (d : List ℕ) → bad1 v d ≡ sizeWrong v (length d)
@@ -45,4 +45,4 @@ chained v d h i j =
 
 -- for engines, which ask for a sound directory
 pub fault-chained : (v : ℕ) (d : List ℕ) → fault v d ≡ 0 → Chained d
-fault-chained v d e = let f = first-three v d e in chained v d (f .0) (f .1) (f .2)
+fault-chained v d e = let u = unbroken v d e in chained v d (u .size) (u .header) (u .chain)

@@ -1,10 +1,9 @@
 -- The fault's number as code finds it: one test after the other, with rules 4 and 5 in one number. By the cases of the six tests'
--- answers it is the meaning's, and where it is 0 the first three have passed. Assumes nothing.
+-- answers it is the meaning's. Assumes nothing.
 use Prim.Native.Nat.{ℕ}
 use mathlib.Core.Path.{_≡_, refl}
 use mathlib.Core.Bool.{Bool, true, false, cond}
 use mathlib.Core.List.{List}
-use native.Mathlib.Omega.{arith}
 use lib.Dec.{eqb}
 use Rattle.meaning.specs.Sound.{bad1, bad2, bad3, bad4, bad5, bad6, rule, fault}
 use Rattle.chain.specs.Measure.{measureOf}
@@ -37,27 +36,3 @@ by-tests false false false false false false = refl
 pub fault-is : (v : ℕ) (d : List ℕ) → faultBy (bad1 v d) (bad2 d) (bad3 d) (measureOf v d) (bad6 d) ≡ fault v d
 unfolding fault measureOf
 fault-is v d = by-tests (bad1 v d) (bad2 d) (bad3 d) (bad4 d) (bad5 v d) (bad6 d)
-
-by-five : (a b c x y z : Bool) → first a b c x y z ≡ 0 → y ≡ false
-by-five true b c x y z e = absurd (omega arith)
-by-five false true c x y z e = absurd (omega arith)
-by-five false false true x y z e = absurd (omega arith)
-by-five false false false true y z e = absurd (omega arith)
-by-five false false false false true z e = absurd (omega arith)
-by-five false false false false false z e = refl
-
--- where there is no fault, the segments fill the blocks up to V
-pub fifth : (v : ℕ) (d : List ℕ) → fault v d ≡ 0 → bad5 v d ≡ false
-unfolding fault
-fifth v d e = by-five (bad1 v d) (bad2 d) (bad3 d) (bad4 d) (bad5 v d) (bad6 d) e
-
-by-three : (a b c x y z : Bool) → first a b c x y z ≡ 0 → (a ≡ false) × (b ≡ false) × (c ≡ false)
-by-three true b c x y z e = absurd (omega arith)
-by-three false true c x y z e = absurd (omega arith)
-by-three false false true x y z e = absurd (omega arith)
-by-three false false false x y z e = (refl, refl, refl)
-
--- where there is no fault, the first three tests have passed
-pub first-three : (v : ℕ) (d : List ℕ) → fault v d ≡ 0 → (bad1 v d ≡ false) × (bad2 d ≡ false) × (bad3 d ≡ false)
-unfolding fault
-first-three v d e = by-three (bad1 v d) (bad2 d) (bad3 d) (bad4 d) (bad5 v d) (bad6 d) e

@@ -1,31 +1,18 @@
 -- The chain as code follows it, counted down. A word of segment s is a word of the directory, 512 * (s - 1) further on; so each
 -- turn of a walk reads what `linked` tests, and where the links are right the segment at hand is one of 1..H. Assumes nothing.
 use Prim.Native.Nat.{ℕ, zero, suc, _+_, _*_, _-_, _≤_, _<_}
-use mathlib.Core.Path.{_≡_, refl, sym, _∙_}
+use mathlib.Core.Path.{_≡_, refl, ap, _∙_}
 use mathlib.Core.Bool.{true, _&&_}
-use mathlib.Core.List.{List}
+use mathlib.Core.List.{List, _∷_}
 use native.Mathlib.Omega.{arith}
-use lib.ListN.{getD, take, drop}
+use lib.ListN.{length, getD, take, drop}
 use lib.Dec.{leb, eqb}
-use borrow.Author.Tests.{leb-true}
-use Rattle.bools.proofs.Bools.{both}
-use Rattle.meaning.specs.Words.{segment, totalOf, extraBytesOf, highest}
+use Rattle.meaning.specs.Words.{segment, totalOf, extraBytesOf, highest, chainFrom}
 use Rattle.walks.specs.Links.{linked}
-use Rattle.segment.proofs.Slots.{word, word0}
-
--- the first word of segment s
-abbrev pub base : ℕ → ℕ
-base s = 512 * (s - 1)
-
--- word k of segment s
-pub header : (d : List ℕ) (s k : ℕ) → k < 512 → getD (segment d s) k 0 ≡ getD d (base s + k) 0
-unfolding segment
-header d s k h = word d (base s) 512 k h
-
--- word 0, which code reads at base s and not at base s + 0
-pub header0 : (d : List ℕ) (s : ℕ) → getD (segment d s) 0 0 ≡ getD d (base s) 0
-unfolding segment
-header0 d s = word0 d (base s) 512 (omega arith)
+use Rattle.chain.specs.Chained.{Chained}
+use Rattle.walks.proofs.Words.{base, header, header0}
+use Rattle.walks.proofs.Linked.{visit}
+use Rattle.walks.proofs.Lists.{chain-step}
 
 -- the part of the slice that is segment s
 pub part-is : (d : List ℕ) (s : ℕ) → take (base s + 512 - base s) (drop (base s) d) ≡ segment d s
@@ -58,18 +45,27 @@ unfolding linked
 linked-end zero d s h = refl
 linked-end (suc n) d s h = absurd (omega arith)
 
--- what right links say of the segment at hand, with n segments left
+-- the segment at hand of a walk along right links, with n segments left: it is one of 1..H, so it lies in the slice
 pub record Next (n : ℕ) (d : List ℕ) (s : ℕ) : Type 0 where
   pub low : 1 ≤ s
   pub high : s ≤ highest d
+  pub inside : 512 * s ≤ length d
+  pub most : s ≤ 31
   pub rest : linked (n - 1) d (linkAt d s) ≡ true
 
-pub next : (n : ℕ) (d : List ℕ) (s : ℕ) → 0 < n → linked n d s ≡ true → Next n d s
-next n d s h e =
-    let a = leb 1 s in
-    let b = leb s (highest d) in
-    let t = eqb (getD d (base s) 0) (totalOf d) in
-    let x = eqb (getD d (base s + 3) 0) (extraBytesOf d) in
-    let p = both (a && b && t && x) (linked (n - 1) d (linkAt d s)) (sym (linked-step n d s h) ∙ e) in
-    let q = both a b (both (a && b) t (both (a && b && t) x (p .0) .0) .0) in
-    record { low = leb-true 1 s (q .0); high = leb-true s (highest d) (q .1); rest = p .1 }
+pub next : (n : ℕ) (d : List ℕ) (s : ℕ) → Chained d → 0 < n → linked n d s ≡ true → Next n d s
+next zero d s c h e = absurd (omega arith)
+next (suc n) d s c h e =
+    let v = visit n d s e in
+    let m : suc n - 1 ≡ n = omega arith in
+    record {
+      low = v .low;
+      high = v .high;
+      inside = omega (arith, v .high, c .whole);
+      most = omega (arith, v .high, c .whole, c .few);
+      rest = rw (m, ← header d s 1 (omega arith)) (v .rest);
+    }
+
+-- the chain from there on, by the link that code reads
+pub chain-next : (n : ℕ) (d : List ℕ) (s : ℕ) → 0 < n → chainFrom n d s ≡ s ∷ chainFrom (n - 1) d (linkAt d s)
+chain-next n d s h = chain-step n d s h ∙ ap (λ (k : ℕ). s ∷ chainFrom (n - 1) d k) (header d s 1 (omega arith))

@@ -1,13 +1,13 @@
 -- Rules 4 and 5 along the chain. The walk keeps one equation: what the segments still ahead give, after those so far, is what the
 -- whole chain gives. Each turn takes one segment off the front, with a case for each answer of its scan. Assumes nothing.
-use Prim.Native.Nat.{ℕ, zero, suc, _+_, _*_, _-_, _≤_, _<_}
+use Prim.Native.Nat.{ℕ, _+_, _*_, _-_, _≤_, _<_}
 use mathlib.Core.Path.{_≡_, refl}
 use mathlib.Core.Bool.{Bool, true, false, cond, _&&_, _||_, not}
 use mathlib.Core.List.{List}
 use native.Mathlib.Omega.{arith}
 use lib.ListN.{getD, take, drop}
 use lib.Dec.{eqb}
-use Rattle.meaning.specs.Words.{segment, firstData, highest, slotWords, slots, entries, chainFrom, chain}
+use Rattle.meaning.specs.Words.{firstData, highest, slotWords, slots, entries, chainFrom, chain}
 use Rattle.meaning.specs.Sound.{any, badSlots, bad4, filled, bad5}
 use Rattle.walks.specs.Links.{linked}
 use Rattle.walks.specs.Scan.{scanBad}
@@ -17,11 +17,10 @@ use Rattle.segment.specs.declared.scan.Scan.{Scan}
 use Rattle.segment.specs.declared.scan.Scan.the-variants.{Fault, Sum}
 use Rattle.chain.specs.Chained.{Chained}
 use Rattle.chain.specs.Measure.{measureOf}
-use Rattle.chain.proofs.Links.{base, header, part-is, linkAt}
-
--- the slots of segment s
-abbrev slotsOf : List ℕ → ℕ → List (List ℕ)
-slotsOf d s = slots (slotWords d) (segment d s)
+use Rattle.chain.proofs.Links.{part-is, linkAt, chain-next}
+use Rattle.walks.proofs.Words.{base, header}
+use Rattle.walks.proofs.Lists.{chain-over}
+use Rattle.walks.proofs.Slots.{slotsOf}
 
 -- the walk's answer with the segments ss still ahead. joined: each segment so far began where it should; b: where the last ended
 unfoldable pub measureFrom : ℕ → List ℕ → Bool → ℕ → List ℕ → ℕ
@@ -44,19 +43,16 @@ by-scan false false count sum v b f d ss = refl
 pub turn : (v n : ℕ) (d : List ℕ) (s : ℕ) (joined : Bool) (b : ℕ) (r : Scan) → 0 < n → r ≡ scanOf (slotsOf d s)
     → measureFrom v d joined b (chainFrom n d s)
     ≡ after r v d joined b (chainFrom (n - 1) d (linkAt d s)) (getD d (base s + 4) 0)
-unfolding measureFrom chainFrom any filled entries scanOf
-turn v zero d s joined b r h e = absurd (omega arith)
-turn v (suc n) d s joined b r h e =
-    let m : suc n - 1 ≡ n = omega arith in
-    rw (m, e, bad-scan (slotsOf d s), ← header d s 1 (omega arith), ← header d s 4 (omega arith))
+unfolding measureFrom any filled entries scanOf
+turn v n d s joined b r h e =
+    rw (chain-next n d s h, e, bad-scan (slotsOf d s), ← header d s 4 (omega arith))
     (by-scan (scanBad false (slotsOf d s)) joined _ _ v b _ d _)
 
 -- its end
 pub turned : (v n : ℕ) (d : List ℕ) (s : ℕ) (joined : Bool) (b : ℕ) → n ≤ 0
     → measureFrom v d joined b (chainFrom n d s) ≡ cond (not (joined && eqb b v)) 5 0
-unfolding measureFrom chainFrom any filled
-turned v zero d s joined b h = refl
-turned v (suc n) d s joined b h = absurd (omega arith)
+unfolding measureFrom any filled
+turned v n d s joined b h = rw (chain-over n d s h)
 
 -- the walk's invariant: left segments are ahead, from s on, after those that end at block b. Each segment has at most 507 lengths
 -- of 16 bits, and the first of 31 begins at 6 + 2 * 31

@@ -18,8 +18,8 @@ use Rattle.segment.specs.declared.finder.Place.{Place}
 use Rattle.segment.specs.declared.finder.Found.{Found}
 use Rattle.segment.specs.declared.finder.Found.the-variants.{At, Nothing}
 use Rattle.segment.specs.Finder.{foundOf, Inside}
-use Rattle.segment.proofs.Slots.{word}
-use Rattle.laws.proofs.Grown.{closable, row-ends}
+use Rattle.walks.proofs.Words.{word}
+use Rattle.rules.proofs.Grown.{closable, row-ends}
 use Rattle.channels.specs.Closing.{replacingAt, Opened}
 
 -- writes one after the other

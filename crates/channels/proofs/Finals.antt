@@ -1,15 +1,13 @@
 -- A final length, by its sign. A number that is not below 0 is a count of blocks, and then the test against the tentative length decides.
 use Prim.Native.Nat.{ℕ, _≤_, _<_}
 use mathlib.Core.Path.{_≡_, refl}
-use mathlib.Core.Bool.{Bool, true, false, cond, true≢false}
+use mathlib.Core.Bool.{Bool, true, false, cond}
 use mathlib.Core.List.{List}
 use mathlib.Core.Option.{Option, none, some}
 use native.Mathlib.Omega.{arith}
-use lib.IntN.{ℤ, pos, negsuc, natAbs}
-use lib.Signed.{ltZ, nonNeg}
-use lib.Dec.{T, leb}
-use mir.Syntax.{w32}
-use mir.Val.{Fits, SFits}
+use lib.IntN.{ℤ, pos, negsuc}
+use lib.Signed.{ltZ}
+use lib.Dec.{leb}
 use borrow.Author.Tests.{ltb-true, leb-true, le-leb, lt-leb}
 use Rattle.meaning.specs.Words.{Row, blocks, dateOf}
 use Rattle.meaning.specs.Answers.{refuse, success, write}
@@ -21,14 +19,6 @@ pub final-below : (z : ℤ) (l : ℕ) → ltZ z (pos 0) ≡ true → Wrong ≡ f
 unfolding finalBy finalLength
 final-below (pos n) l t = absurd (omega (arith, ltb-true n 0 t))
 final-below (negsuc n) l t = refl
-
-pub is-pos : (z : ℤ) → ltZ z (pos 0) ≡ false → z ≡ pos (natAbs z)
-is-pos (pos n) t = refl
-is-pos (negsuc n) t = absurd (true≢false t)
-
-pub pos-fits : (z : ℤ) → SFits w32 z → ltZ z (pos 0) ≡ false → T (nonNeg z) × Fits w32 (natAbs z)
-pos-fits (pos n) f t = (tt, record { fits = omega (arith, f .sfits) })
-pos-fits (negsuc n) f t = absurd (true≢false t)
 
 pub final-above : (n l : ℕ) → l < n → Wrong ≡ finalBy (pos n) l
 unfolding finalBy finalLength

@@ -17,7 +17,7 @@ use Rattle.segment.specs.Finder.{placeOf}
 use Rattle.channels.specs.declared.Final.{Final}
 use Rattle.channels.specs.declared.Final.the-variants.{Length, Wrong}
 
--- 16: final length below 0 or above the tentative length
+-- a final length is wrong where it is no number of blocks, or more than was reserved
 abbrev pub finalUnder : Option ℕ → ℕ → Final
 finalUnder none longest = Wrong
 finalUnder (some n) longest = cond (leb n longest) (Length n) Wrong

@@ -12,7 +12,8 @@ use lib.Dec.{leb, ltb}
 use Rattle.meaning.specs.Words.{segments, firstOf, highest, slotWords, capacity, slots, upto, entries, chainFrom, chain}
 use Rattle.meaning.specs.Enter.{Area, hasRoom, areas, eligibles, firstFit}
 use Rattle.walks.specs.Links.{linked}
-use Rattle.chain.proofs.Links.{base, header, part-is, linkAt, Next}
+use Rattle.chain.proofs.Links.{part-is, linkAt, Next}
+use Rattle.walks.proofs.Words.{base, header}
 use Rattle.chain.proofs.Replaced.{partOf}
 use Rattle.choice.specs.Choice.{allAreas, placeOfArea, chosenOf, Stands, Fitted}
 use Rattle.choice.specs.Room.{roomBy}
@@ -81,7 +82,7 @@ stands p d s m low high h =
       roomy = rw (h .seg) (sym (room-at d s (p .cost)) ∙ h .roomy);
     }
 
-module _ (d : List ℕ) (m left s : ℕ) (inv : Choosing d m left s) where
+module _ {d : List ℕ} {m left s : ℕ} (inv : Choosing d m left s) where
   pub none-chosen : left ≤ 0 → Fitted Nothing d m
   unfolding eligibles firstFit
   none-chosen h = record { is = rw (areas-none left d s h) at (inv .same); stands = tt }

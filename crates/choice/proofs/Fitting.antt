@@ -15,13 +15,14 @@ use Rattle.meaning.specs.declared.Kind.{Kind}
 use Rattle.meaning.specs.Kinds.{kindOf, isTentative, isEmpty, isEnd}
 use Rattle.meaning.specs.Words.{Entry, firstOf, kind, blocks, slotCount, slots, upto, total}
 use Rattle.meaning.specs.Enter.{Area, costAfter, areasIn, eligibles, firstFit}
-use Rattle.segment.proofs.Slots.{word, word0, mul-less}
+use Rattle.walks.proofs.Words.{word, word0}
+use Rattle.walks.proofs.Slots.{mul-less}
 use Rattle.choice.specs.Choice.{placeOfArea, chosenOf}
 use Rattle.choice.specs.Room.{Cost, roomFor, eligibleBy}
 use Rattle.choice.specs.Judged.{areaFrom, fitting, FitIn}
 use Rattle.choice.specs.declared.choose.Chosen.{Chosen}
 use Rattle.choice.specs.declared.choose.Chosen.the-variants.{At, Nothing}
-use Rattle.segment.proofs.Ahead.{slotAt, ahead, ahead-all, ahead-none, ahead-end, ahead-next, first-room, few-slots}
+use Rattle.segment.proofs.Ahead.{slotAt, ahead, ahead-all, ahead-none, ahead-end, ahead-next, total-next, first-room, few-slots}
 
 -- what is chosen among entries of segment s, after k others, from block b on; t: a tentative entry stands directly before
 abbrev pub fits : ℕ → ℕ → ℕ → ℕ → ℕ → ℕ → Bool → List Entry → Chosen
@@ -53,11 +54,11 @@ module _ (w s : ℕ) (free : ℕ) (m : ℕ) where
       (areasIn (roomFor free) s (k + 1) (b + blocks e) (isTentative (kind e)) es) refl refl
 
   module _ (g : List ℕ) (left p k b : ℕ) (t : Bool) where
-    pub fits-over : left ≤ 0 → Nothing ≡ fits w s free m k b t (ahead g w left p)
+    fits-over : left ≤ 0 → Nothing ≡ fits w s free m k b t (ahead g w left p)
     fits-over h = rw (ahead-none g w left p h) (fits-none k b t)
 
     module _ (h : 0 < left) (wide : 7 ≤ w) where
-      pub fits-end : isEnd (kindOf (getD g p 0)) ≡ true → Nothing ≡ fits w s free m k b t (ahead g w left p)
+      fits-end : isEnd (kindOf (getD g p 0)) ≡ true → Nothing ≡ fits w s free m k b t (ahead g w left p)
       fits-end e = rw (ahead-end g w left p h wide e) (fits-none k b t)
 
       module _ (e : isEnd (kindOf (getD g p 0)) ≡ false) where
@@ -96,10 +97,6 @@ fitting-is m free t κ n h =
     let c = both (leb 1 n) (roomFor free (costAfter t)) (b .0) in
     (leb-true 1 n (c .0), leb-true m n (b .1), c .1)
 
-total-next : (g : List ℕ) (w p : ℕ) (es : List Entry) → 7 ≤ w → total (slotAt g w p ∷ es) ≡ getD g (p + 4) 0 + total es
-unfolding total
-total-next g w p es h = rw (word g p w 4 (omega arith))
-
 -- the loop's invariant: left slots are ahead, from word p on, after k entries; the next begins at block b
 pub record Fitting (g : List ℕ) (w s : ℕ) (free : ℕ) (m left p k b : ℕ) (t : Bool) : Type 0 where
   pub place : p + left * w ≤ 512
@@ -122,21 +119,26 @@ starts g w s free m l = record {
   same = rw (ahead-all g w);
 }
 
+-- the loop ends without a fit
+module _ {g : List ℕ} {w s free m left p k b : ℕ} {t : Bool} (inv : Fitting g w s free m left p k b t) where
+  pub fit-over : left ≤ 0 → FitIn Nothing g w s (roomFor free) m
+  fit-over h = record { is = fits-over w s free m g left p k b t h ∙ inv .same; stands = tt }
+
+  pub fit-end : 0 < left → 7 ≤ w → isEnd (kindOf (getD g p 0)) ≡ true → FitIn Nothing g w s (roomFor free) m
+  fit-end h wide e = record { is = fits-end w s free m g left p k b t h wide e ∙ inv .same; stands = tt }
+
 -- the ways through the loop's body that pass the marker's test
-module _ (w s : ℕ) (free : ℕ) (m : ℕ) (g : List ℕ) (left p k b : ℕ) (t : Bool) (inv : Fitting g w s free m left p k b t)
+module _ {g : List ℕ} {w s free m left p k b : ℕ} {t : Bool} (inv : Fitting g w s free m left p k b t)
     (h : 0 < left) (wide : 7 ≤ w) (e : isEnd (kindOf (getD g p 0)) ≡ false) where
   one-ahead : length (ahead g w left p) ≡ 1 + length (ahead g w (left - 1) (p + w))
   one-ahead = ap length (ahead-next g w left p h wide e) ∙ omega arith
-
-  blocks-ahead : total (ahead g w left p) ≡ getD g (p + 4) 0 + total (ahead g w (left - 1) (p + w))
-  blocks-ahead = ap total (ahead-next g w left p h wide e) ∙ total-next g w p (ahead g w (left - 1) (p + w)) wide
 
   pub fit-miss : fitting m free t (kindOf (getD g p 0)) (getD g (p + 4) 0) ≡ false → getD g (p + 4) 0 ≤ 65535
       → (u : Bool) → u ≡ isTentative (kindOf (getD g p 0))
       → Fitting g w s free m (left - 1) (p + w) (k + 1) (b + getD g (p + 4) 0) u
   fit-miss f l u q =
       let o = one-ahead in
-      let d = blocks-ahead in
+      let d = total-next g w left p h wide e in
       let y = mul-less left w h in
       let z = add-mul k 1 w in
       record {
@@ -156,7 +158,7 @@ module _ (w s : ℕ) (free : ℕ) (m : ℕ) (g : List ℕ) (left p k b : ℕ) (t
       g w s (roomFor free) m
   fit-hit f cost c =
       let o = one-ahead in
-      let d = blocks-ahead in
+      let d = total-next g w left p h wide e in
       let y = mul-less left w h in
       let l = fitting-is m free t (kindOf (getD g p 0)) (getD g (p + 4) 0) f in
       let at : 512 * (s - 1) + p ≡ 512 * (s - 1) + 5 + k * w = omega arith in

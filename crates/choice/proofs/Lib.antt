@@ -3,3 +3,4 @@ pub mod FirstFit
 pub mod Longs
 pub mod Rooms
 pub mod Visits
+pub mod Sizes

@@ -1,19 +1,18 @@
 -- A segment without an area that is long enough has no fit, whatever room it has: so its free slots need not be counted. Where there is
--- one, the free slots as a number stand for the room. The loop that looks keeps one equation, of the entries ahead and all.
-use Prim.Native.Nat.{ℕ, _+_, _*_, _-_, _≤_, _<_}
+-- one, the free slots as a number stand for the room.
+use Prim.Native.Nat.{ℕ, _+_}
 use mathlib.Core.Path.{_≡_, refl, sym, ap, _∙_}
-use mathlib.Core.Bool.{Bool, true, false, cond, _&&_, _||_, false≢true}
+use mathlib.Core.Bool.{Bool, true, false, cond, _&&_, false≢true}
 use mathlib.Core.List.{List, [], _∷_}
-use native.Mathlib.Omega.{arith}
-use lib.ListN.{getD}
 use lib.Dec.{leb}
 use Rattle.bools.proofs.Bools.{neither}
-use Rattle.meaning.specs.Kinds.{kindOf, isTentative, isEmpty, isEnd}
-use Rattle.meaning.specs.Words.{Entry, firstOf, kind, blocks, slotCount, slots, upto}
+use Rattle.meaning.specs.declared.Kind.{Kind}
+use Rattle.meaning.specs.Kinds.{kindOf, isTentative, isEmpty}
+use Rattle.meaning.specs.Words.{Entry, firstOf, kind, blocks, slots, upto}
 use Rattle.meaning.specs.Sound.{any}
 use Rattle.meaning.specs.Enter.{Area, costAfter, areasIn, eligibles, firstFit}
-use Rattle.segment.proofs.Slots.{word, word0}
-use Rattle.segment.proofs.Ahead.{slotAt, ahead, ahead-all, ahead-none, ahead-end, ahead-next, first-room}
+use Rattle.segment.proofs.Ahead.{ahead}
+use Rattle.segment.proofs.Looking.{meets, Looking}
 use Rattle.choice.specs.Choice.{chosenOf}
 use Rattle.choice.specs.Room.{roomFor, roomBy, Free}
 use Rattle.choice.specs.Judged.{long, longEntry, StandingIn, FitIn}
@@ -78,44 +77,17 @@ fit-by r g w s free spare n m q f = record {
   stands = stands-by r g w s free spare n m q (f .stands);
 }
 
--- the loop's invariant: left slots are ahead, from word p on
-pub record Looking (g : List ℕ) (w m left p : ℕ) : Type 0 where
-  pub place : p + left * w ≤ 512
-  pub same : any (longEntry m) (ahead g w left p) ≡ any (longEntry m) (upto (slots w g))
+-- the loop that looks asks nothing of the entry before
+abbrev pub longTest : ℕ → Kind → Kind → ℕ → Bool
+longTest m b κ n = long m κ n
 
-pub looking : (g : List ℕ) (w m : ℕ) → Looking g w m (slotCount w) 5
-looking g w m = record { place = first-room w; same = rw (ahead-all g w) }
+pub long-found : (m : ℕ) (b : Kind) (es : List Entry) → meets (longTest m) b es ≡ any (longEntry m) es
+unfolding meets any
+long-found m b [] = refl
+long-found m b (e ∷ es) = rw (long-found m (kind e) es)
 
-any-none : (m : ℕ) → any (longEntry m) [] ≡ false
-unfolding any
-any-none m = refl
-
-any-step : (m : ℕ) (e : Entry) (es : List Entry) → any (longEntry m) (e ∷ es) ≡ longEntry m e || any (longEntry m) es
-unfolding any
-any-step m e es = refl
-
-module _ (g : List ℕ) (w m left p : ℕ) where
-  pub look-over : left ≤ 0 → false ≡ any (longEntry m) (ahead g w left p)
-  look-over h = rw (ahead-none g w left p h, any-none m)
-
-  module _ (h : 0 < left) (wide : 7 ≤ w) where
-    pub look-end : isEnd (kindOf (getD g p 0)) ≡ true → false ≡ any (longEntry m) (ahead g w left p)
-    look-end e = rw (ahead-end g w left p h wide e, any-none m)
-
-    module _ (e : isEnd (kindOf (getD g p 0)) ≡ false) where
-      look-step : any (longEntry m) (ahead g w left p)
-          ≡ long m (kindOf (getD g p 0)) (getD g (p + 4) 0) || any (longEntry m) (ahead g w (left - 1) (p + w))
-      look-step =
-          rw (
-            ahead-next g w left p h wide e,
-            any-step m (slotAt g w p) (ahead g w (left - 1) (p + w)),
-            word0 g p w (omega arith),
-            word g p w 4 (omega arith),
-          )
-
-      pub look-found : long m (kindOf (getD g p 0)) (getD g (p + 4) 0) ≡ true → true ≡ any (longEntry m) (ahead g w left p)
-      look-found f = rw (look-step, f)
-
-      pub look-on : long m (kindOf (getD g p 0)) (getD g (p + 4) 0) ≡ false
-          → any (longEntry m) (ahead g w (left - 1) (p + w)) ≡ any (longEntry m) (ahead g w left p)
-      look-on f = rw (look-step, f)
+pub any-before : (m : ℕ) {g : List ℕ} {w left p b : ℕ} {r : Bool} → Looking (longTest m) g w left p b r → Looking (longTest m) g w left p 0 r
+any-before m {g} {w} {left} {p} {b} l = record {
+  place = l .place;
+  same = long-found m (kindOf 0) (ahead g w left p) ∙ sym (long-found m (kindOf b) (ahead g w left p)) ∙ l .same;
+}

@@ -1,25 +1,15 @@
 -- The areas along the chain: those of the first segment, and those of the rest from where it links to. Two tests of room that agree on
 -- the costs of areas give the same areas, so code may test against a number of free slots. Assumes nothing.
-use Prim.Native.Nat.{ℕ, zero, suc, _+_, _-_, _≤_, _<_}
+use Prim.Native.Nat.{ℕ, _+_, _-_, _≤_, _<_}
 use mathlib.Core.Path.{_≡_, refl}
-use mathlib.Core.Bool.{Bool, true, false}
+use mathlib.Core.Bool.{Bool, false}
 use mathlib.Core.List.{List, [], _∷_, _++_}
-use native.Mathlib.Omega.{arith}
 use Rattle.meaning.specs.Kinds.{isTentative}
 use Rattle.meaning.specs.Words.{Entry, kind, blocks, segment, firstOf, entries, chainFrom}
 use Rattle.meaning.specs.Enter.{Area, costAfter, hasRoom, areasIn, areas}
-use Rattle.chain.proofs.Links.{header, linkAt}
-
--- a cost is 1 or 2
-pub cost-some : (p : Bool) → 1 ≤ costAfter p
-unfolding costAfter
-cost-some true = omega arith
-cost-some false = omega arith
-
-pub cost-small : (p : Bool) → costAfter p ≤ 2
-unfolding costAfter
-cost-small true = omega arith
-cost-small false = omega arith
+use Rattle.walks.proofs.Lists.{chain-over}
+use Rattle.walks.proofs.Fits.{cost-some, cost-small}
+use Rattle.chain.proofs.Links.{linkAt, chain-next}
 
 pub areas-same : (r q : ℕ → Bool) → ((c : ℕ) → 1 ≤ c → c ≤ 2 → r c ≡ q c) → (s k b : ℕ) (p : Bool) (es : List Entry)
     → areasIn r s k b p es ≡ areasIn q s k b p es
@@ -37,13 +27,9 @@ areasAt d s = areasIn (hasRoom d (entries d s)) s 0 (firstOf (segment d s)) fals
 
 pub areas-next : (n : ℕ) (d : List ℕ) (s : ℕ) → 0 < n
     → areas d (chainFrom n d s) ≡ areasAt d s ++ areas d (chainFrom (n - 1) d (linkAt d s))
-unfolding areas chainFrom
-areas-next zero d s h = absurd (omega arith)
-areas-next (suc n) d s h =
-    let m : suc n - 1 ≡ n = omega arith in
-    rw (m, ← header d s 1 (omega arith))
+unfolding areas
+areas-next n d s h = rw (chain-next n d s h)
 
 pub areas-none : (n : ℕ) (d : List ℕ) (s : ℕ) → n ≤ 0 → areas d (chainFrom n d s) ≡ []
-unfolding areas chainFrom
-areas-none zero d s h = refl
-areas-none (suc n) d s h = absurd (omega arith)
+unfolding areas
+areas-none n d s h = rw (chain-over n d s h)

@@ -51,7 +51,7 @@ abbrev pub Standing : Chosen → List ℕ → ℕ → Type 0
 Standing (At p) t n = Stands p t n
 Standing Nothing t n = Unit {0}
 
--- the answer r: the first eligible area in chain order of length at least n
+-- the answer r: of the areas that may be taken the first that has n blocks
 pub record Fitted (r : Chosen) (t : List ℕ) (n : ℕ) : Type 0 where
   pub is : r ≡ chosenOf (slotWords t) (firstFit n (eligibles (allAreas t)))
   pub stands : Standing r t n

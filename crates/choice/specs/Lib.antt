@@ -1,3 +1,4 @@
 pub mod Choice
 pub mod Judged
 pub mod Room
+pub mod Asks

@@ -5,7 +5,7 @@ use Prim.Native.Nat.{ℕ, zero, suc, _+_, _*_, _-_, _≤_, _<_}
 use mathlib.Core.Path.{_≡_, refl, sym, ap, _∙_}
 use mathlib.Core.Bool.{Bool, true, false, cond, _&&_, not, true≢false}
 use mathlib.Core.List.{List, [], _∷_}
-use native.Mathlib.Nat.{suc-mul, zero-mul, mul-le-mul-right, div-mul-le-self}
+use native.Mathlib.Nat.{mul-le-mul-right, div-mul-le-self}
 use native.Mathlib.Omega.{arith}
 use lib.ListN.{length, getD, take, drop}
 use lib.Seq.{drop-drop, drop-cons, drop-length}
@@ -15,14 +15,15 @@ use Rattle.bools.proofs.Bools.{both}
 use Rattle.meaning.specs.declared.Kind.{Kind}
 use Rattle.meaning.specs.Kinds.{kindOf, isEnd}
 use Rattle.meaning.specs.declared.Name.{Name}
-use Rattle.meaning.specs.Words.{Row, segments, segment, slotWords, slotCount, nameOf, kind, chunks, slots, upto, rowsIn}
-use Rattle.segment.proofs.Slots.{word, word0, mul-less}
+use Rattle.meaning.specs.Words.{Row, segments, segment, slotWords, slotCount, nameOf, kind, slots, upto, rowsIn}
+use Rattle.walks.proofs.Words.{word, word0, base, header}
+use Rattle.walks.proofs.Slots.{mul-less, length-slots, at-chunks}
 use Rattle.cursor.specs.Cursor.{isSegment, inside, AtEntry, slotPlace, slotIn, isEntry, rowIn, onEntry, rowHere, firstSlot}
 use Rattle.cursor.specs.Cursor.{entriesHere, rowsHere, rowsFrom, rowsAt, past, entryStep, firstStep, stepAt}
 use Rattle.cursor.specs.declared.Cursor.{Cursor}
 use Rattle.cursor.specs.declared.Step.{Step}
 use Rattle.cursor.specs.declared.Step.the-variants.{Entry, End}
-use Rattle.chain.proofs.Links.{base, header, part-is, linkAt}
+use Rattle.chain.proofs.Links.{part-is, linkAt}
 
 pub segment-is : (d : List ℕ) (s : ℕ) → isSegment d s ≡ true → (1 ≤ s) × (512 * s ≤ length d)
 unfolding isSegment
@@ -67,28 +68,10 @@ stands d c s =
 pub slot-fits : (w k : ℕ) → 1 ≤ k → k ≤ slotCount w → (k - 1) * w + w ≤ 507
 slot-fits w k l h = omega (arith, mul-less k w l, mul-le-mul-right w h, div-mul-le-self 507 w)
 
-length-chunks : (n w : ℕ) (l : List ℕ) → length (chunks n w l) ≡ n
-unfolding chunks
-length-chunks zero w l = refl
-length-chunks (suc n) w l = ap suc (length-chunks n w (drop w l))
-
-length-slots : (w : ℕ) (g : List ℕ) → length (slots w g) ≡ slotCount w
-unfolding slots
-length-slots w g = length-chunks (slotCount w) w (drop 5 g)
-
--- slot k of n, counted from 0
-chunk-at : (n w k : ℕ) (l : List ℕ) → k < n → getD (chunks n w l) k [] ≡ take w (drop (k * w) l)
-unfolding chunks
-chunk-at zero w k l h = absurd (omega arith)
-chunk-at (suc n) w zero l h = rw (zero-mul w)
-chunk-at (suc n) w (suc k) l h =
-    let m : suc k * w ≡ w + k * w = suc-mul k w ∙ omega arith in
-    chunk-at n w k (drop w l) (omega arith) ∙ rw (drop-drop (k * w) w l, m)
-
 -- slot k of the segment g
 pub slot-is : (w : ℕ) (g : List ℕ) (k : ℕ) → 1 ≤ k → k ≤ slotCount w → slotIn w g k ≡ take w (drop (slotPlace w k) g)
 unfolding slots
-slot-is w g k l h = chunk-at (slotCount w) w (k - 1) (drop 5 g) (omega arith) ∙ ap (take w) (drop-drop ((k - 1) * w) 5 g)
+slot-is w g k l h = at-chunks (slotCount w) (k - 1) w (drop 5 g) (omega arith) ∙ ap (take w) (drop-drop ((k - 1) * w) 5 g)
 
 -- whether an entry stands there, by its status word
 pub stands-by : (w : ℕ) (g : List ℕ) (k : ℕ) (marker : Bool) → 7 ≤ w → 1 ≤ k → k ≤ slotCount w

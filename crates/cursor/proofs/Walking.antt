@@ -3,17 +3,16 @@
 -- past a row the rows ahead are those that followed it. Assumes nothing.
 use Prim.Native.Nat.{ℕ, zero, suc, _+_, _-_, _≤_, _<_}
 use mathlib.Core.Path.{_≡_, refl, sym, _∙_}
-use mathlib.Core.Bool.{Bool, true, false, not}
+use mathlib.Core.Bool.{Bool, true, false}
 use mathlib.Core.List.{List, [], _∷_, _++_}
 use mathlib.Core.Logic.{⊎-elim}
 use native.Mathlib.Nat.{zero-mul}
 use native.Mathlib.Omega.{arith}
-use lib.Dec.{eqb}
 use borrow.Author.Tests.{eqb-true, not-false}
-use Rattle.bools.proofs.Bools.{both, either-side}
-use Rattle.meaning.specs.Words.{Row, firstData, segment, linkOf, firstOf, highest, slotWords, slotCount, blocks, entries, total}
+use Rattle.bools.proofs.Bools.{either-side}
+use Rattle.meaning.specs.Words.{Row, firstData, highest, slotWords, slotCount, blocks, entries, total}
 use Rattle.meaning.specs.Words.{chainFrom, chain, segmentRows, rowsOf, rows}
-use Rattle.meaning.specs.Sound.{bad1, bad2, bad3, bad4, bad5, bad6, filled, rule, fault}
+use Rattle.meaning.specs.Sound.{bad5, filled, fault}
 use Rattle.walks.specs.Links.{linked}
 use Rattle.walks.proofs.Heads.{sized}
 use Rattle.chain.specs.Chained.{Chained}
@@ -22,33 +21,13 @@ use Rattle.cursor.specs.Cursor.{rowsFrom, rowsAt, seenOf, past, firstSte
 use Rattle.cursor.specs.declared.Cursor.{Cursor}
 use Rattle.cursor.specs.declared.Seen.{Seen}
 use Rattle.cursor.specs.declared.Step.the-variants.{Entry, End}
-use Rattle.chain.proofs.Links.{header, next}
+use Rattle.chain.proofs.Links.{next}
+use Rattle.walks.proofs.Words.{header}
+use Rattle.walks.proofs.Filled.{filled-step, filled-le}
+use Rattle.walks.proofs.Unbroken.{unbroken}
+use Rattle.walks.proofs.Lists.{next as link, chain-step}
 use Rattle.chain.proofs.Chains.{fault-chained}
-use Rattle.chain.proofs.Faults.{first-three}
 use Rattle.cursor.proofs.Stepping.{is-segment, stands, entry-slot, here-none, ahead-some, here-some}
-
--- rule 5 is kept where there is no fault
-fifth : (a b c x y z : Bool)
-    → (rule 1 a λ _. rule 2 b λ _. rule 3 c λ _. rule 4 x λ _. rule 5 y λ _. rule 6 z λ _. 0) ≡ 0 → y ≡ false
-fifth true b c x y z e = absurd (omega arith)
-fifth false true c x y z e = absurd (omega arith)
-fifth false false true x y z e = absurd (omega arith)
-fifth false false false true y z e = absurd (omega arith)
-fifth false false false false true z e = absurd (omega arith)
-fifth false false false false false z e = refl
-
--- blocks that segments fill up to v begin at v or before
-filled-most : (v : ℕ) (d : List ℕ) (b : ℕ) (ss : List ℕ) → filled v d b ss ≡ true → b ≤ v
-unfolding filled
-filled-most v d b [] e = let h = eqb-true b v e in omega arith
-filled-most v d b (s ∷ ss) e =
-    let p = both (eqb (firstOf (segment d s)) b) (filled v d (b + total (entries d s)) ss) e in
-    let h = filled-most v d (b + total (entries d s)) ss (p .1) in
-    omega arith
-
--- the segment that segment s links to
-abbrev link : List ℕ → ℕ → ℕ
-link d s = linkOf (segment d s)
 
 -- the rows of a segment are those from its first slot on
 first-rows : (d : List ℕ) (s : ℕ) → rowsHere d (firstSlot d s) ≡ segmentRows d s
@@ -74,7 +53,7 @@ pub record On (v : ℕ) (d : List ℕ) (c : Cursor) : Type 0 where
 
 pub on-stands : {v : ℕ} {d : List ℕ} {c : Cursor} → On v d c → AtEntry d c
 on-stands {v} {d} {c} o =
-    let f = filled-most v d (c .first + total (entriesHere d c)) (chainFrom (o .left) d (link d (c .seg))) (o .fills) in
+    let f = filled-le v d (c .first + total (entriesHere d c)) (chainFrom (o .left) d (link d (c .seg))) (o .fills) in
     record {
       low = o .low;
       high = omega (arith, o .chained .whole);
@@ -84,16 +63,9 @@ on-stands {v} {d} {c} o =
     }
 
 -- segment s, with n segments still to visit, itself among them
-visit : (n : ℕ) (d : List ℕ) (s : ℕ) → 0 < n → linked n d s ≡ true
+visit : (n : ℕ) (d : List ℕ) (s : ℕ) → Chained d → 0 < n → linked n d s ≡ true
     → (1 ≤ s) × (s ≤ highest d) × (linked (n - 1) d (link d s) ≡ true)
-visit n d s h e = let x = next n d s h e in (x .low, x .high, rw (header d s 1 (omega arith)) (x .rest))
-
-chain-step : (n : ℕ) (d : List ℕ) (s : ℕ) → 0 < n → chainFrom n d s ≡ s ∷ chainFrom (n - 1) d (link d s)
-unfolding chainFrom
-chain-step zero d s h = absurd (omega arith)
-chain-step (suc n) d s h =
-    let e : suc n - 1 ≡ n = omega arith in
-    rw e
+visit n d s k h e = let x = next n d s k h e in (x .low, x .high, rw (header d s 1 (omega arith)) (x .rest))
 
 -- segments are numbered from 1
 none-zero : (d : List ℕ) → isSegment d 0 ≡ false
@@ -108,7 +80,7 @@ from-chain {d} m zero c k h e = absurd (omega arith)
 from-chain {d} zero (suc n) c k h e = rw (eqb-true (link d (c .seg)) 0 e, none-zero d)
 from-chain {d} (suc m) (suc n) c k h e =
     let t = link d (c .seg) in
-    let u = visit (suc m) d t (omega arith) e in
+    let u = visit (suc m) d t k (omega arith) e in
     let f : suc m - 1 ≡ m = omega arith in
     let w = k .whole in
     rw (is-segment d t (u .0) (omega arith), from-chain m n (firstSlot d t) k (omega arith) (rw f at (u .2)), first-rows d t)
@@ -123,44 +95,38 @@ ahead {v} {d} {c} o = from-chain (o .left) 31 c (o .chained) (omega arith) (o .l
 enters : {v : ℕ} {d : List ℕ} (n s b : ℕ) → Chained d → v ≤ 65535 → 0 < n → n ≤ 31 → linked n d s ≡ true
     → filled v d b (chainFrom n d s) ≡ true
     → On v d (firstSlot d s)
-unfolding firstSlot filled
+unfolding firstSlot
 enters {v} {d} n s b k w h f e g =
-    let x = visit n d s h e in
+    let x = visit n d s k h e in
     let ss = chainFrom (n - 1) d (link d s) in
-    let p = both (eqb (firstOf (segment d s)) b) (filled v d (b + total (entries d s)) ss) (rw (chain-step n d s h) at g) in
-    let q = eqb-true (firstOf (segment d s)) b (p .0) in
+    let p = filled-step v d b s ss (rw (chain-step n d s h) at g) in
     record {
       chained = k;
       wide = w;
       left = n - 1;
       few = omega arith;
       links = x .2;
-      fills = rw (first-entries d s, ← header d s 4 (omega arith), q) (p .1);
+      fills = rw (first-entries d s, ← header d s 4 (omega arith), p .0) (p .1);
       low = x .0;
       high = x .1;
       some = omega arith;
       most = omega arith;
     }
 
--- what a sound directory gives
-filled-all : (v : ℕ) (d : List ℕ) → fault v d ≡ 0 → filled v d (firstData d) (chain d) ≡ true
-unfolding fault bad5
-filled-all v d e =
-    not-false _ (fifth (bad1 v d) (bad2 d) (bad3 d) (bad4 d) (not (filled v d (firstData d) (chain d))) (bad6 d) e)
-
 -- the walk begins before all rows
 pub begins : (v : ℕ) (d : List ℕ) → fault v d ≡ 0 → On v d (firstSlot d 1)
-unfolding chain
+unfolding chain bad5
 begins v d e =
     let k = fault-chained v d e in
-    let s = sized v d (first-three v d e .0) in
-    enters (highest d) 1 (firstData d) k (s .wide) (k .some) (omega arith) (k .links) (filled-all v d e)
+    let u = unbroken v d e in
+    let s = sized v d (u .size) in
+    enters (highest d) 1 (firstData d) k (s .wide) (k .some) (omega arith) (k .links) (not-false _ (u .blocks))
 
 pub from-start : (v : ℕ) (d : List ℕ) → fault v d ≡ 0 → rowsAt d (firstSlot d 1) ≡ rows d
 unfolding rowsAt rows chain rowsOf firstSlot
 from-start v d e =
     let k = fault-chained v d e in
-    let x = visit (highest d) d 1 (k .some) (k .links) in
+    let x = visit (highest d) d 1 k (k .some) (k .links) in
     let l = k .few in
     from-chain (highest d - 1) 31 (firstSlot d 1) k (omega arith) (x .2)
     ∙ rw (first-rows d 1, chain-step (highest d) d 1 (k .some))
@@ -225,7 +191,7 @@ module _ {v : ℕ} {d : List ℕ} where
   unfolding rowsOf firstSlot rowsAt
   here-link {c} o e h =
       let s = link d (c .seg) in
-      let x = visit (o .left) d s h (o .links) in
+      let x = visit (o .left) d s (o .chained) h (o .links) in
       let b = from-chain (o .left - 1) 31 (firstSlot d s) (o .chained) (omega arith) (x .2) in
       ahead o ∙ rw (here-none d c (on-stands o) e, chain-step (o .left) d s h, b, first-rows d s)
 

@@ -25,7 +25,7 @@ monthLengths = 0 ∷ 31 ∷ 28 ∷ 31 ∷ 30 ∷ 31 ∷ 30 ∷ 31 ∷ 31 ∷ 30 
 unfoldable pub isLeap : ℕ → Bool
 isLeap year = eqb (year % 400) 0 || (not (eqb (year % 100) 0) && eqb (year % 4) 0)
 
--- 29 for February in leap years; a month that the table doesn't have has no days
+-- February has a day more in a leap year; a month that the table doesn't have has no days
 unfoldable pub daysIn : ℕ → ℕ → ℕ
 daysIn month year = getD monthLengths month 0 + cond (eqb month 2 && isLeap year) 1 0
 
@@ -34,7 +34,7 @@ unfoldable pub inCalendar : ℕ → ℕ → ℕ → Bool
 inCalendar day month year =
     leb (years .first) year && leb year (years .last) && leb 1 day && leb day (daysIn month year)
 
--- Date word: month·1024 + day·32 + (year − 1972)
+-- the word of a day: the month above the day above what the year adds
 unfoldable pub packedDay : ℕ → ℕ → ℕ → ℕ
 packedDay day month year = month * 1024 + day * 32 + years .part year
 
@@ -53,18 +53,18 @@ namesDay word =
     let year = years .named word in
     inCalendar day month year && eqb (packedDay day month year) word
 
--- Word 0 means no date and is allowed; any other word that names no calendar day is bad
+-- a date word is good where it names a day, or is 0, which stands for no date
 unfoldable pub goodDate : ℕ → Bool
 goodDate word = eqb word 0 || namesDay word
 
--- a date not in the calendar answers 9 and word 0
+-- the word of a calendar day; for any other numbers 9
 unfoldable pub wordOfDay : ℕ → ℕ → ℕ → DayWord
 wordOfDay day month year =
     cond (inCalendar day month year)
     (record { number = 0; word = packedDay day month year })
     (record { number = 9; word = 0 })
 
--- reading a bad word answers 9, reading word 0 success, both with day, month and year 0
+-- the day that a word names; word 0 names none, and is no error; all other words are 9
 unfoldable pub dayOfWord : ℕ → WordDay
 dayOfWord word =
     cond (namesDay word)

@@ -1,4 +1,5 @@
 // The soundness check: rules 1 to 6 in order, and the smallest number.
+use crate::clashes;
 use chain::head;
 ghost use mathlib.Core.Path.{_≡_};
 ghost use Rattle.meaning.specs.Sound.{fault};

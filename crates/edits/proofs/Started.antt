@@ -2,12 +2,13 @@
 -- stands where the rendered segment has it: header, entry, extras, marker, zeros. Assumes nothing.
 use Prim.Native.Nat.{ℕ, zero, suc, _+_, _*_, _-_, _≤_, _<_}
 use native.Mathlib.Omega.{arith}
-use mathlib.Core.Path.{_≡_, refl, ap, _∙_}
+use mathlib.Core.Path.{_≡_, ap, _∙_}
 use mathlib.Core.List.{List, [], _∷_, _++_, append-nil, append-assoc}
 use lib.ListN.{length, take, drop, set, replicate, drop-of-length-le, replicate-append-replicate}
 use Rattle.meaning.specs.Words.{segments, firstData}
 use Rattle.meaning.specs.Kinds.{emptyStatus, endStatus}
 use Rattle.meaning.specs.Requests.{entryOf, emptyEntry, flat, render, freshWords}
+use Rattle.walks.proofs.Words.{take-zeros}
 
 pub all-cleared : (d : List ℕ) (i : ℕ) → i ≤ length d → length d ≤ i → replicate i 0 ++ drop i d ≡ replicate (length d) 0
 all-cleared d i l h =
@@ -18,12 +19,6 @@ all-cleared d i l h =
 set-zeros : (k m : ℕ) (x : ℕ) → set (replicate (k + suc m) 0) k x ≡ replicate k 0 ++ x ∷ replicate m 0
 set-zeros zero m x = let e : 0 + suc m ≡ suc m = omega arith in rw e
 set-zeros (suc k) m x = let e : suc k + suc m ≡ suc (k + suc m) = omega arith in rw (e, set-zeros k m x)
-
--- the first zeros of many
-take-zeros : (k m : ℕ) → k ≤ m → take k (replicate {A = ℕ} m 0) ≡ replicate k 0
-take-zeros zero m h = refl
-take-zeros (suc k) zero h = absurd (omega arith)
-take-zeros (suc k) (suc m) h = ap (λ (l : List ℕ). 0 ∷ l) (take-zeros k m (omega arith))
 
 -- zeros, a word, and zeros, cut after j words
 cut-zeros : (k j m : ℕ) (x : ℕ) → k < j → j ≤ k + suc m → take j (replicate k 0 ++ x ∷ replicate m 0) ≡ replicate k 0 ++ x ∷ replicate (j - suc k) 0

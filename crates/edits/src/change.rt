@@ -21,7 +21,8 @@ pub fn make_empty(words: &mut [u16], at: usize)
 // The entry gets another name: its three name words.
 pub fn give_name(words: &mut [u16], at: usize, name: Name)
     requires { ⌜ at + 3 < length (now words) ⌝ }
-    ensures { λ _. ⌜ now (words .exit) ≡ write (now (words .entry)) (put at nameWord (name .first) ∷ put at name2Word (name .second) ∷ put at extensionWord (name .extension) ∷ []) ⌝ }
+    ensures { λ _. ⌜ now (words .exit) ≡ write (now (words .entry))
+        (put at nameWord (name .first) ∷ put at name2Word (name .second) ∷ put at extensionWord (name .extension) ∷ []) ⌝ }
 {
     words[at + 1] = name.first;
     words[at + 2] = name.second;
@@ -30,8 +31,12 @@ pub fn give_name(words: &mut [u16], at: usize, name: Name)
 
 // The tentative entry becomes permanent with its final length, and the entry after it, whose place is `next`, grows by the difference.
 pub fn make_permanent(words: &mut [u16], at: usize, next: usize, size: u16)
-    requires { ⌜ (at + 7 ≤ next) × (next + 4 < length (now words)) × (size ≤ getD (now words) (at + lengthWord) 0) × (getD (now words) (next + lengthWord) 0 + (getD (now words) (at + lengthWord) 0 - size) ≤ 65535) ⌝ }
-    ensures { λ _. ⌜ now (words .exit) ≡ write (now (words .entry)) (put at statusWord permanentStatus ∷ put at lengthWord size ∷ put at channelWord 0 ∷ put next lengthWord (getD (now (words .entry)) (next + lengthWord) 0 + (getD (now (words .entry)) (at + lengthWord) 0 - size)) ∷ []) ⌝ }
+    requires { ⌜ (at + 7 ≤ next) × (next + 4 < length (now words)) × (size ≤ getD (now words) (at + lengthWord) 0)
+        × (getD (now words) (next + lengthWord) 0 + (getD (now words) (at + lengthWord) 0 - size) ≤ 65535) ⌝ }
+    ensures { λ _. ⌜ now (words .exit) ≡ write (now (words .entry))
+        (put at statusWord permanentStatus ∷ put at lengthWord size ∷ put at channelWord 0
+        ∷ put next lengthWord (getD (now (words .entry)) (next + lengthWord) 0 + (getD (now (words .entry)) (at + lengthWord) 0 - size))
+        ∷ []) ⌝ }
 {
     let grown = words[next + 4] + (words[at + 4] - size);
     words[at] = PERMANENT;

@@ -1,4 +1,4 @@
-// A fresh start: all words 0 but segment 1's header, one empty entry and a marker.
+// A fresh start: every word is cleared, and then segment 1 gets its header, one area and the marker.
 use meaning::EMPTY;
 use meaning::END;
 ghost use mathlib.Core.Path.{_≡_};

@@ -3,6 +3,8 @@
 use channels::abandon_sound;
 use channels::close_sound;
 use channels::is_channel;
+use choice::size::is_good_size;
+use choice::size::size_of;
 use dates::is_good_date;
 use enter::enter_file;
 use files::delete_sound;
@@ -17,8 +19,6 @@ use meaning::Op;
 use meaning::Request;
 use meaning::refused;
 use segment::finder::Found;
-use size::is_good_size;
-use size::size_of;
 ghost use mathlib.Core.Path.{_≡_};
 ghost use Rattle.meaning.specs.Sound.{fault};
 ghost use Rattle.meaning.specs.Answers.{Meets};

@@ -13,23 +13,20 @@ use Rattle.meaning.specs.declared.Name.{Name}
 use Rattle.meaning.specs.Words.{slotWords, slotCount, lengthWord, Entry, blocks, segment, slots, firstOf, highest, entries}
 use Rattle.meaning.specs.Words.{total, chain}
 use Rattle.meaning.specs.Sound.{fault}
-use Rattle.meaning.specs.declared.Answer.{Answer}
-use Rattle.meaning.specs.Answers.{Outcome, success, isNone}
+use Rattle.meaning.specs.Answers.{success, isNone}
 use Rattle.meaning.specs.Enter.{Area, tidied, areas, eligibles, firstFit, unsplit, split, entered}
-use Rattle.segment.proofs.Slots.{word}
+use Rattle.walks.proofs.Words.{word, header}
+use Rattle.walks.proofs.Slots.{entry-at}
+use Rattle.walks.proofs.Unbroken.{unbroken}
 use Rattle.chain.specs.Chained.{Chained}
-use Rattle.chain.proofs.Faults.{fifth}
 use Rattle.chain.proofs.Chains.{fault-chained}
 use Rattle.tidy.specs.Tidied.{TidyKept}
-use Rattle.chain.proofs.Links.{header}
 use Rattle.tidy.proofs.InPlace.{tidied-kept}
 use Rattle.tidy.proofs.AfterTidy.{slots-same, highest-same, first-same, total-same, ends-by}
 use Rattle.choice.specs.declared.choose.AreaPlace.{AreaPlace}
-use Rattle.choice.specs.declared.choose.Chosen.{Chosen}
 use Rattle.choice.specs.declared.choose.Chosen.the-variants.{At, Nothing}
 use Rattle.choice.specs.Choice.{Stands, Fitted, placeOfArea}
 use Rattle.choice.proofs.FirstFit.{chosen-area, chosen-none}
-use Rattle.render.proofs.Chunks.{entry-at}
 use Rattle.insert.specs.declared.place.Spot.{Spot}
 use Rattle.insert.specs.Spots.{areaOf, Enterable}
 use Rattle.enter.specs.Entering.{newOf, Fits, placedIn}
@@ -38,12 +35,6 @@ use Rattle.enter.proofs.Ready.{volume}
 -- the spot of a place
 abbrev pub spotAt : AreaPlace → Spot
 spotAt p = record { seg = p .seg; before = p .before; word = p .at - 512 * (p .seg - 1); cost = p .cost }
-
-abbrev pub answer-of : Outcome → Answer
-answer-of o = o .answer
-
-abbrev pub words-of : Outcome → List ℕ
-words-of o = o .words
 
 -- the length of the entry after k others of segment s, where its words stand
 entry-blocks : (t : List ℕ) (s k : ℕ) → k < length (entries t s) → 5 + k * slotWords t + slotWords t ≤ 512
@@ -78,7 +69,7 @@ module _ (v : ℕ) (d : List ℕ) (h : fault v d ≡ 0) (n : ℕ) where
   ends s l m =
       let x = fault-chained v d h in
       let k : s ≤ highest d = omega (arith, highest-same d t kept) in
-      omega (arith, first-same d t kept s l, total-same d t kept x s l k, ends-by v d x (fifth v d h) s l k, volume v d h)
+      omega (arith, first-same d t kept s l, total-same d t kept x s l k, ends-by v d x (unbroken v d h .blocks) s l k, volume v d h)
 
   area-enterable : (a : Area) → Stands (placeOfArea (slotWords t) a) t n → Enterable t (spotAt (placeOfArea (slotWords t) a)) n
   area-enterable a s =
@@ -102,9 +93,8 @@ module _ (v : ℕ) (d : List ℕ) (h : fault v d ≡ 0) (n : ℕ) where
         sums = ends (a .seg) (s .low) (s .high);
       }
 
-  pub enterable : (r : Chosen) (p : AreaPlace) → Fitted r t n → r ≡ At p → Enterable t (spotAt p) n
-  enterable r p f e =
-      let k : Fitted (At p) t n = rw e at f in
+  pub enterable : (p : AreaPlace) → Fitted (At p) t n → Enterable t (spotAt p) n
+  enterable p k =
       let b = chosen-area (slotWords t) (firstFit n (eligibles (areas t (chain t)))) p (k .is) in
       rw (b .2) (area-enterable (b .0) (rw (b .2) at (k .stands)))
 
@@ -118,33 +108,29 @@ module _ (v : ℕ) (d : List ℕ) (h : fault v d ≡ 0) (n : ℕ) where
       let w : slotWords t ≡ slotWords d = slots-same d t kept in
       rw (i, q, w, same-area t (newOf d name n channel date) n (slotWords d) a)
 
-  pub placed-at : (r : Chosen) (p : AreaPlace) → Fitted r t n → r ≡ At p → (name : Name) (channel date : ℕ)
+  pub placed-at : (p : AreaPlace) → Fitted (At p) t n → (name : Name) (channel date : ℕ)
       → placedIn d name n channel date ≡ success (p .first) n date (entered t (newOf t name n channel date) n (areaOf (spotAt p)))
-  placed-at r p f e =
-      let k : Fitted (At p) t n = rw e at f in
+  placed-at p k =
       let b = chosen-area (slotWords t) (firstFit n (eligibles (areas t (chain t)))) p (k .is) in
       placed-area (b .0) p (b .2) (b .1)
 
   -- an area that fits is chosen
-  pub somewhere : (r : Chosen) → Fitted r t n → Fits d n → r ≡ Nothing → ⊥
-  somewhere r f g e =
-      let k : Fitted Nothing t n = rw e at f in
+  pub somewhere : Fitted Nothing t n → Fits d n → ⊥
+  somewhere k g =
       let i : firstFit n (eligibles (areas t (chain d))) ≡ none =
       ap (λ (ss : List ℕ). firstFit n (eligibles (areas t ss))) (sym (kept .links))
       ∙ chosen-none (slotWords t) (firstFit n (eligibles (areas t (chain t)))) (k .is) in
       false≢true (sym g ∙ ap (λ (o : Option Area). isNone o) i)
 
   -- the first block fits a word
-  pub first-small : (r : Chosen) (p : AreaPlace) → Fitted r t n → r ≡ At p → p .first ≤ 65535
-  first-small r p f e =
-      let k : Fitted (At p) t n = rw e at f in
+  pub first-small : (p : AreaPlace) → Fitted (At p) t n → p .first ≤ 65535
+  first-small p k =
       let x = k .stands in
       omega (arith, ends (p .seg) (x .low) (x .high), x .ends)
 
   -- the slot stands behind its segment's start
-  pub at-after : (r : Chosen) (p : AreaPlace) → Fitted r t n → r ≡ At p → 512 * (p .seg - 1) ≤ p .at
-  at-after r p f e =
-      let k : Fitted (At p) t n = rw e at f in
+  pub at-after : (p : AreaPlace) → Fitted (At p) t n → 512 * (p .seg - 1) ≤ p .at
+  at-after p k =
       let b = chosen-area (slotWords t) (firstFit n (eligibles (areas t (chain t)))) p (k .is) in
       let q : p .at ≡ 512 * (p .seg - 1) + 5 + p .before * slotWords t = place-at p (b .0) (slotWords t) (b .2) in
       omega arith

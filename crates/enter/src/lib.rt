@@ -2,6 +2,9 @@
 // then is the directory tidied and the new entry put into its area, all in place.
 use choice::choose::Chosen;
 use choice::choose::first_fit;
+use choice::size::Asked;
+use choice::size::at_least;
+use choice::size::wanted_of;
 use insert::place::Spot;
 use insert::place::enter_area;
 use meaning::Answer;
@@ -9,9 +12,6 @@ use meaning::Name;
 use meaning::refused;
 use meaning::succeeded;
 use render::Tentative;
-use size::Asked;
-use size::at_least;
-use size::wanted_of;
 use survey::areas::survey_areas;
 use tidy::tidy::tidy_all;
 ghost use mathlib.Core.Path.{_≡_};
@@ -19,7 +19,7 @@ ghost use Rattle.meaning.specs.Words.{chain};
 ghost use Rattle.meaning.specs.Sound.{fault};
 ghost use Rattle.meaning.specs.Enter.{tidied};
 ghost use Rattle.meaning.specs.Answers.{Meets};
-ghost use Rattle.size.specs.Asks.{sizeBy};
+ghost use Rattle.choice.specs.Asks.{sizeBy};
 ghost use Rattle.enter.specs.Entering.{anyUntidy, Fits, placedIn, entering};
 
 // The directory tidied. Where no segment is untidy, as most often, nothing is walked for it.

@@ -8,7 +8,7 @@ use meaning::Answer;
 use meaning::Key;
 use meaning::Name;
 use meaning::refused;
-use names::radix::is_legal_name;
+use names::is_legal_name;
 use segment::finder::Found;
 ghost use mathlib.Core.Path.{_≡_};
 ghost use Rattle.meaning.specs.Sound.{fault};

@@ -1,6 +1,6 @@
 -- What was found, and the row behind it: a place that was found is that of a row of the directory, so its numbers fit words. Each is by
 -- the cases of what was found.
-use Prim.Native.Nat.{ℕ, _+_, _≤_}
+use Prim.Native.Nat.{ℕ, _≤_}
 use native.Mathlib.Omega.{arith}
 use mathlib.Core.Path.{_≡_, refl, ap}
 use mathlib.Core.Bool.{false}
@@ -10,7 +10,7 @@ use Rattle.meaning.specs.declared.Answer.{Answer}
 use Rattle.meaning.specs.Kinds.{emptyStatus}
 use Rattle.meaning.specs.Words.{statusWord, Row, rows}
 use Rattle.meaning.specs.Sound.{fault}
-use Rattle.meaning.specs.Answers.{Outcome, refuse, success, onRow, isNone, find, fileOf, openOn, put, write}
+use Rattle.meaning.specs.Answers.{refuse, success, onRow, isNone, find, fileOf, openOn, put, write}
 use Rattle.meaning.specs.Requests.{successWith, emptying}
 use Rattle.meaning.specs.declared.Name.{Name}
 use Rattle.meaning.specs.declared.Key.{Key}
@@ -19,15 +19,9 @@ use Rattle.meaning.specs.Keys.{holds}
 use Rattle.segment.specs.declared.finder.Place.{Place}
 use Rattle.segment.specs.declared.finder.Found.{Found}
 use Rattle.segment.specs.declared.finder.Found.the-variants.{At, Nothing}
-use Rattle.segment.specs.Finder.{placeOf, foundOf, Inside}
-use Rattle.laws.proofs.Grown.{row-ends}
+use Rattle.segment.specs.Finder.{placeOf, foundOf}
+use Rattle.rules.proofs.Grown.{row-ends}
 use Rattle.find.specs.Find.{answerAt, emptied}
-
-abbrev pub answer-of : Outcome → Answer
-answer-of o = o .answer
-
-abbrev pub words-of : Outcome → List ℕ
-words-of o = o .words
 
 -- a row behind a place that was found
 pub record Behind (o : Option Row) (p : Place) : Type 0 where
@@ -70,10 +64,6 @@ open-found d x p e = found-some (find (holds (Open x)) (rows d)) p e
 pub open-none : (d : List ℕ) (x : ℕ) → foundOf (find (holds (Open x)) (rows d)) ≡ Nothing → openOn d x ≡ none
 unfolding openOn
 open-none d x e = found-none (find (holds (Open x)) (rows d)) e
-
--- a place that was found lies in the directory
-pub place-inside : (f : Found) (w n : ℕ) (p : Place) → f ≡ At p → Inside f w n → p .at + w ≤ n
-place-inside f w n p e h = rw e at h
 
 -- delete and abandon, by what was found
 pub emptied-at : (d : List ℕ) (key : Key) (missing : ℕ) (p : Place) → foundOf (find (holds key) (rows d)) ≡ At p

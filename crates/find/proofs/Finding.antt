@@ -1,6 +1,6 @@
 -- The search along the chain. What is found in the rows of a segment and of those after it is what is found in the first, or else
 -- in the others; so the walk keeps one equation: what is found in the segments ahead is what is found in all. Assumes nothing.
-use Prim.Native.Nat.{ℕ, zero, suc, _+_, _-_, _≤_, _<_}
+use Prim.Native.Nat.{ℕ, _+_, _-_, _≤_, _<_}
 use mathlib.Core.Path.{_≡_, refl}
 use mathlib.Core.Bool.{Bool, true, false, cond}
 use mathlib.Core.List.{List, [], _∷_, _++_}
@@ -19,7 +19,9 @@ use Rattle.segment.specs.declared.finder.Found.{Found}
 use Rattle.segment.specs.declared.finder.Found.the-variants.{At, Nothing}
 use Rattle.segment.proofs.Searching.{place-inside}
 use Rattle.chain.specs.Chained.{Chained}
-use Rattle.chain.proofs.Links.{base, header, part-is, linkAt}
+use Rattle.chain.proofs.Links.{part-is, linkAt, chain-next}
+use Rattle.walks.proofs.Words.{base, header}
+use Rattle.walks.proofs.Lists.{chain-over}
 
 -- the first of two answers
 abbrev pub orElse : Found → Found → Found
@@ -50,17 +52,13 @@ foundHere key d s g =
 -- one turn of the walk, where r is what is found in segment s
 pub turn : (key : Key) (n : ℕ) (d : List ℕ) (s : ℕ) (r : Found) → 0 < n → r ≡ foundHere key d s (segment d s)
     → foundFrom key n d s ≡ orElse r (foundFrom key (n - 1) d (linkAt d s))
-unfolding chainFrom rowsOf segmentRows entries
-turn key zero d s r h e = absurd (omega arith)
-turn key (suc n) d s r h e =
-    let m : suc n - 1 ≡ n = omega arith in
-    rw (m, e, ← header d s 1 (omega arith), ← header d s 4 (omega arith)) (find-append (holds key) _ _)
+unfolding rowsOf segmentRows entries
+turn key n d s r h e = rw (chain-next n d s h, e, ← header d s 4 (omega arith)) (find-append (holds key) _ _)
 
 -- its end
 pub turned : (key : Key) (n : ℕ) (d : List ℕ) (s : ℕ) → n ≤ 0 → foundFrom key n d s ≡ Nothing
-unfolding chainFrom rowsOf find
-turned key zero d s h = refl
-turned key (suc n) d s h = absurd (omega arith)
+unfolding rowsOf find
+turned key n d s h = rw (chain-over n d s h)
 
 -- the walk's invariant: left segments are ahead, from s on
 pub record Finding (d : List ℕ) (key : Key) (left s : ℕ) : Type 0 where

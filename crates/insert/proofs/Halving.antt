@@ -13,8 +13,8 @@ use Rattle.meaning.specs.Words.{Entry, blocks, chunks, slots, upto, total, link
 use Rattle.insert.specs.declared.place.Spot.{Spot}
 use Rattle.render.specs.Anew.{gapWords, insertedWords, renderedWords, Inserting, insertedInto, Insertable}
 use Rattle.insert.specs.Spots.{Slot, Half, wholeSegment, oldSegment, freshSegment}
-use Rattle.render.proofs.Chunks.{first-slots, entries-slots, few-entries, drop-chunks, at-chunks}
-use Rattle.segment.proofs.Slots.{word}
+use Rattle.walks.proofs.Slots.{first-slots, entries-slots, entries-count, drop-chunks, at-chunks}
+use Rattle.walks.proofs.Words.{word}
 use Rattle.segment.proofs.Ahead.{slots-room}
 use Rattle.render.proofs.Parts.{Part, part-inserting, part-room, part-is, plain-is, half-room}
 
@@ -35,8 +35,7 @@ module _ {g : List ℕ} {new : Entry} {p : Spot} (s : Slot g new p) where
   are-slots = entries-slots (507 / length new) (length new) (drop 5 g)
 
   few : countIn g (length new) ≤ 507 / length new
-  unfolding slots
-  few = few-entries (507 / length new) (length new) (drop 5 g)
+  few = entries-count (length new) g
 
   pub room : 5 + countIn g (length new) * length new ≤ 512
   room = slots-room (countIn g (length new)) (length new) few

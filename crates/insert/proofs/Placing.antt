@@ -4,16 +4,16 @@
 use Prim.Native.Nat.{ℕ, _+_, _*_, _-_, _/_, _≤_, _<_}
 use mathlib.Core.Path.{_≡_, sym, ap, _∙_}
 use mathlib.Core.Bool.{true, false}
-use mathlib.Core.List.{List, [], _∷_, _++_}
+use mathlib.Core.List.{List}
 use native.Mathlib.Omega.{arith}
-use lib.ListN.{length, getD, take, drop, set, replicate, length-append, length-take, length-drop, length-replicate}
-use lib.Seq.{paste, take-length, length-take-le, getD-take}
+use lib.ListN.{length, getD, take, set, length-take, length-drop}
+use lib.Seq.{paste, take-length, getD-take}
 use lib.Dec.{leb, ltb}
 use borrow.Rule.Slice.PartMut.{putMid}
 use borrow.Author.Tests.{le-leb, lt-leb, ltb-true}
-use Rattle.meaning.specs.Kinds.{tentativeStatus, endStatus}
+use Rattle.meaning.specs.Kinds.{tentativeStatus}
 use Rattle.meaning.specs.Words.{Entry, segment, slotWords, slotCount, capacity, slots, upto, entries, blocks, highest, segments}
-use Rattle.meaning.specs.Requests.{entryOf, flat, render}
+use Rattle.meaning.specs.Requests.{entryOf}
 use Rattle.meaning.specs.Enter.{withSegment, headerOf, kept, unsplit, split, entered, hasRoom}
 use Rattle.chain.specs.Chained.{Chained}
 use Rattle.chain.proofs.Links.{part-is}
@@ -24,23 +24,11 @@ use Rattle.render.specs.Anew.{newEntry}
 use Rattle.segment.specs.Count.{Counted}
 use Rattle.render.specs.Halves.{KeptOf}
 use Rattle.insert.specs.Spots.{areaOf, Chosen, Splittable, Enterable, Slot, Half, wholeSegment, oldSegment, freshSegment}
-use Rattle.copying.proofs.Writes.{pasted}
-use Rattle.render.proofs.Chunks.{few-entries}
+use Rattle.segment.proofs.Writes.{pasted}
+use Rattle.walks.proofs.Slots.{entries-count}
+use Rattle.walks.proofs.Flat.{render-length, entry-length}
 use Rattle.segment.proofs.Ahead.{few-slots, slots-room}
-use Rattle.render.proofs.Anew.{entry-take, entry-length}
-
--- a segment has 512 words
-flat-long : (es : List Entry) (t : List ℕ) → length t ≤ length (flat es t)
-unfolding flat
-flat-long [] t = omega arith
-flat-long (e ∷ es) t = omega (arith, length-append e (flat es t), flat-long es t)
-
-cut-length : (n : ℕ) (h : List ℕ) (es : List Entry) (z : List ℕ) → n ≤ length z → length (take n (h ++ flat es z)) ≡ n
-cut-length n h es z k = length-take-le n (h ++ flat es z) (omega (arith, length-append h (flat es z), flat-long es z))
-
-pub render-length : (h : List ℕ) (es : List Entry) → length (render h es) ≡ 512
-unfolding render
-render-length h es = cut-length 512 h es (endStatus ∷ replicate 512 0) (omega (arith, length-replicate {A = ℕ} 512 0))
+use Rattle.render.proofs.Anew.{entry-take}
 
 -- a segment copied back
 pub put-segment : (d : List ℕ) (s : ℕ) (o : List ℕ) → 1 ≤ s → length o ≡ 512
@@ -113,11 +101,10 @@ module _ {t : List ℕ} {w : ℕ} {a : List ℕ} (e : Tentative) (c : Chained t)
         part-put t o (p .seg) (h .low) ∙ rw (k, new-blocks, same-entries, new-length, part-is t (p .seg), new-is, i)
 
     pub counted-of : (n : ℕ) → n ≡ length (entries t (p .seg)) → Counted n w (partOf t (p .seg))
-    unfolding slots
     counted-of n k =
         let part : List ℕ = partOf t (p .seg) in
         let m : n ≡ length (upto (slots w part)) = rw (part-entries t (p .seg) w i) k in
-        let f : n ≤ slotCount w = omega (arith, m, few-entries (507 / w) w (drop 5 part)) in
+        let f : n ≤ slotCount w = omega (arith, m, entries-count w part) in
         record { is = m; few = f; small = omega (arith, few-slots w); room = slots-room n w f }
 
     pub half-of : (n : ℕ) → KeptOf n (upto (slots w (partOf t (p .seg)))) → Splittable t (p .seg)

@@ -1,8 +1,8 @@
 // The new entry placed in the area that was chosen: inserted into its segment, in place, or into a half of it after a split, where both
 // halves are made anew.
-use copying::copy_words;
 use render::Tentative;
 use render::measure;
+use segment::copying::copy_words;
 use segment::count;
 ghost use mathlib.Core.Path.{_≡_};
 ghost use Prim.Native.Nat.{_+_, _≤_, _<_};
@@ -62,10 +62,11 @@ fn old_segment(segment: &[u16], kept: usize, next: u16, spot: Spot, new: &[u16])
     let mut header = [0u16; 5];
     copy_words(&segment[..5], &mut header, 0);
     header[1] = next;
+    let slots = &segment[5..stop];
     if spot.before < kept {
-        return render::inserted_segment(&header, &segment[5..stop], spot.word - 5, spot.cost, new);
+        return render::inserted_segment(&header, slots, spot.word - 5, spot.cost, new);
     }
-    render::plain_segment(&header, &segment[5..stop])
+    render::plain_segment(&header, slots)
 }
 
 // The new segment of a split: the rest of the entries, with the old link. The new entry goes here if its area is among the rest.
@@ -87,16 +88,11 @@ fn fresh_segment(
     let stop = 5 + count * width;
     let first = segment[4] as usize + measure::sum_lengths(segment, width, kept);
     let header = [total, segment[1], 0, extra, first as u16];
+    let slots = &segment[start..stop];
     if spot.before < kept {
-        return render::plain_segment(&header, &segment[start..stop]);
+        return render::plain_segment(&header, slots);
     }
-    render::inserted_segment(
-        &header,
-        &segment[start..stop],
-        spot.word - start,
-        spot.cost,
-        new,
-    )
+    render::inserted_segment(&header, slots, spot.word - start, spot.cost, new)
 }
 
 // The segment of the area split in two, and the new entry inserted into the half that has the area.
@@ -112,23 +108,17 @@ pub fn split_and_insert(directory: &mut [u16], spot: Spot, count: usize, new: Te
     let end = base + 512;
     let highest = directory[2];
     let next = highest + 1;
-    let kept = measure::count_kept(&directory[base..end], width, count);
-    let old = old_segment(&directory[base..end], kept, next, spot, &entry[..width]);
-    let fresh = fresh_segment(
-        &directory[base..end],
-        count,
-        kept,
-        directory[0],
-        directory[3],
-        spot,
-        &entry[..width],
-    );
+    let part = &directory[base..end];
+    let words = &entry[..width];
+    let kept = measure::count_kept(part, width, count);
+    let old = old_segment(part, kept, next, spot, words);
+    let fresh = fresh_segment(part, count, kept, directory[0], directory[3], spot, words);
     copy_words(&old, directory, base);
     copy_words(&fresh, directory, 512 * highest as usize);
     directory[2] = next;
 }
 
-// Split only if the chosen segment lacks the slots. The marker takes one of them.
+// A split comes only where the area's segment has not the slots; its marker needs one too.
 pub fn enter_area(directory: &mut [u16], spot: Spot, new: Tentative)
     requires { ⌜ Enterable (now directory) spot (new .length) ⌝ }
     ensures { λ _. ⌜ now (directory .exit) ≡ entered (now (directory .entry)) (newEntry (slotWords (now (directory .entry))) new)

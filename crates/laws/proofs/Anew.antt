@@ -18,11 +18,11 @@ use Rattle.walks.proofs.Lists.{chain-length, chain-at}
 use Rattle.walks.proofs.Linked.{bad3-walk}
 use Rattle.meaning.specs.declared.Key.{Key}
 use Rattle.meaning.specs.Keys.{holds, once}
-use Rattle.laws.specs.Sound.{Rule2, VisitedOnce}
-use Rattle.laws.proofs.Rule3.{reached-once, rule3-holds}
-use Rattle.laws.proofs.Rule5.{rule2-holds, rule2-tested}
-use Rattle.laws.proofs.Soundness.{Sound}
-use Rattle.laws.proofs.Move.{head-word}
+use Rattle.rules.specs.Sound.{Rule2, VisitedOnce}
+use Rattle.rules.proofs.Rule3.{reached-once, rule3-holds}
+use Rattle.rules.proofs.Rule5.{rule2-holds, rule2-tested}
+use Rattle.rules.proofs.Soundness.{Sound}
+use Rattle.walks.proofs.Words.{header}
 use Rattle.laws.proofs.Living.{Live, living, livingOf, living-append, counted, count-living}
 use Rattle.laws.proofs.Way.{Shape, shapeOf, raised, spread, entriesIn, Stop, Way, way-join, Cut, way-cut, way-blocks, Like, Along}
 use Rattle.laws.proofs.Way.{way-along}
@@ -136,16 +136,6 @@ stop-at v d sd s low high =
       readable = p .readable;
     }
 
--- it ends within the volume
-pub ends-within : (v : ℕ) (d : List ℕ) → Sound v d → (s : ℕ) → 1 ≤ s → s ≤ highest d → firstOf (segment d s) + total (entries d s) ≤ v
-unfolding entries
-ends-within v d sd s low high =
-    let o = around d s (visited v d sd s low high) in
-    let r = cut-at v d sd s o in
-    let e = r .back .1 .first in
-    let f = way-blocks (shapeOf d) d (o .back) _ _ 0 v (r .back .2) in
-    omega arith
-
 chain-long : (d : List ℕ) → length (chain d) ≡ highest d
 unfolding chain
 chain-long d = chain-length (highest d) d 1
@@ -211,10 +201,10 @@ module _ (v : ℕ) (d D : List ℕ) (s h : ℕ) (ms : List ℕ) (sd : Sound v d)
   stop = first-stop (raised c h) D ss 1 (firstData d) 0 v (omega (arith, length-is, x .more, h2 .used)) whole
 
   total-same : totalOf D ≡ totalOf d
-  total-same = sym (head-word D 1 0 (omega arith)) ∙ stop .total
+  total-same = sym (header D 1 0 (omega arith)) ∙ stop .total
 
   extra-same : extraBytesOf D ≡ extraBytesOf d
-  extra-same = sym (head-word D 1 3 (omega arith)) ∙ stop .extra
+  extra-same = sym (header D 1 3 (omega arith)) ∙ stop .extra
 
   full-way : Way (shapeOf D) D ss 1 (firstData D) 0 v
   full-way = rw (total-same, extra-same, x .top, x .size) whole

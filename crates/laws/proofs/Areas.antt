@@ -1,6 +1,5 @@
 -- The areas of a directory. Each stands in a segment in use, with the entries before it and after it: they give its place, its first
--- block and its cost, and it ends within the volume. Every empty entry is such an area. What the choice finds is one of them, long
--- enough and eligible.
+-- block and its cost. Every empty entry is such an area. What the choice finds is one of them, long enough and eligible.
 use Prim.Native.Nat.{ℕ, _+_, _≤_}
 use mathlib.Core.Path.{_≡_, refl, sym, ap, subst}
 use mathlib.Core.Bool.{Bool, true, false, cond, _&&_, or-true}
@@ -13,17 +12,15 @@ use lib.Dec.{leb}
 use borrow.Author.Tests.{leb-true}
 use Rattle.meaning.specs.declared.Kind.the-variants.{Empty}
 use Rattle.meaning.specs.Kinds.{isTentative}
-use Rattle.meaning.specs.Words.{segment, firstOf, Entry, kind, blocks, entries, total, chain}
-use Rattle.meaning.specs.Sound.{any, fault}
-use Rattle.meaning.specs.Enter.{isArea, Area, costAfter, hasRoom, areasIn, areas, eligibles, firstFit, tidied}
-use Rattle.laws.specs.Order.{All}
-use Rattle.laws.proofs.Alls.{all-map, all-append}
-use Rattle.laws.proofs.Soundness.{Sound, total-append}
-use Rattle.laws.proofs.Fine.{flag}
+use Rattle.meaning.specs.Words.{segment, firstOf, Entry, kind, blocks, entries, total}
+use Rattle.meaning.specs.Sound.{any}
+use Rattle.meaning.specs.Enter.{isArea, Area, costAfter, hasRoom, areasIn, areas, eligibles, firstFit}
+use Rattle.walks.specs.Lists.{All}
+use Rattle.walks.proofs.Alls.{all-map, all-append}
+use Rattle.rules.proofs.Soundness.{Sound}
+use Rattle.rules.proofs.Fine.{flag}
 use Rattle.walks.proofs.Told.{empty-kind}
-use Rattle.laws.proofs.Way.{Used, chain-used}
-use Rattle.laws.proofs.Anew.{ends-within}
-use Rattle.laws.proofs.TidiedSound.{tidied-alike}
+use Rattle.laws.proofs.Way.{Used}
 
 -- an area among entries that stand after k others, from block b on, after a tentative one if p says so
 pub record Stands (room : ℕ → Bool) (k b : ℕ) (p : Bool) (es : List Entry) (a : Area) : Type 0 where
@@ -142,18 +139,6 @@ areas-stood t (s ∷ ss) u =
           stands = subst (λ (z : ℕ). Stands (RoomIn t z) 0 (firstOf (segment t z)) false (entries t z) a) (sym q) x;
         }
 
--- it ends within the volume
-stood-within : (v : ℕ) (t : List ℕ) → Sound v t → (a : Area) → Stood t a → a .first + a .size ≤ v
-unfolding total
-stood-within v t st a x =
-    let y = x .stands in
-    let f = y .first in
-    let z = y .size in
-    let l = ends-within v t st (a .seg) (x .used .0) (x .used .1) in
-    let e = ap total (y .are) in
-    let j = total-append (y .before) (y .here ∷ y .after) in
-    omega arith
-
 -- what passes the choice
 record Eligible (P : Area → Type 0) (a : Area) : Type 0 where
   pub is : P a
@@ -190,11 +175,3 @@ pub chosen : (t ss : List ℕ) → All (Used t) ss → (n : ℕ) (a : Area) → 
 chosen t ss u n a h =
     let r = first-fit (Eligible (Stood t)) n (eligibles (areas t ss)) a (all-eligible (Stood t) (areas t ss) (areas-stood t ss u)) h in
     record { stood = r .0 .is; eligible = r .0 .eligible; enough = r .1 }
-
--- in the tidied directory of a sound one: each area ends within the volume
-pub areas-within : (v : ℕ) (d : List ℕ) → fault v d ≡ 0 → All (λ (a : Area). a .first + a .size ≤ v) (areas (tidied d (chain d)) (chain d))
-areas-within v d h =
-    let t = tidied d (chain d) in
-    let x = tidied-alike v d h in
-    all-map (Stood t) (λ (a : Area). a .first + a .size ≤ v) (stood-within v t (x .sound)) (areas t (chain d))
-    (areas-stood t (chain d) (subst (All (Used t)) (x .chain) (chain-used v t (x .sound))))

@@ -22,13 +22,14 @@ use Rattle.meaning.specs.Requests.{emptying, replacing}
 use Rattle.meaning.specs.declared.Key.{Key}
 use Rattle.meaning.specs.declared.Key.the-variants.{File, Open}
 use Rattle.meaning.specs.Keys.{holds, once}
-use Rattle.laws.specs.Order.{OnOpen, All}
-use Rattle.laws.proofs.Alls.{all-both}
-use Rattle.laws.proofs.Grid.{entryAt, word-at, not-first}
+use Rattle.laws.specs.Order.{OnOpen}
+use Rattle.walks.specs.Lists.{All}
+use Rattle.walks.proofs.Alls.{all-both}
+use Rattle.rules.proofs.Grid.{entryAt, word-at, not-first}
 use Rattle.laws.proofs.Writes.{Fit, edit, To, edit-to, edit-away, edit-append, at-write}
-use Rattle.laws.proofs.Keys.{once-open, file≢open, IsFile, is-file, file-holds, is-open, empty-holds, other-key}
-use Rattle.laws.proofs.Touch.{Touch, keep, area, gone, made}
-use Rattle.laws.proofs.Rows.{Slot, Stand, Only}
+use Rattle.rules.proofs.Keys.{once-open, file≢open, IsFile, is-file, file-holds, is-open, empty-holds, other-key}
+use Rattle.rules.proofs.Touch.{Touch, keep, area, gone, made}
+use Rattle.rules.proofs.Rows.{Slot, Stand, Only}
 use Rattle.laws.proofs.Keeps.{After, nothing}
 use Rattle.laws.proofs.Entries.{slot-seven, cleared, Closed, closed, Grown, grown, file-short}
 use Rattle.laws.proofs.Good.{Owns, mine, after, Two, Made, made-source, good, after-writes}

@@ -16,11 +16,12 @@ use Rattle.meaning.specs.Requests.{legal, emptying, goodChannel, wordOf, renami
 use Rattle.meaning.specs.declared.Key.{Key}
 use Rattle.meaning.specs.declared.Key.the-variants.{File, Open}
 use Rattle.meaning.specs.Keys.{holds, once}
-use Rattle.laws.specs.Order.{OnOpen, All}
-use Rattle.laws.proofs.Alls.{all-map}
-use Rattle.laws.proofs.Keys.{once-file, once-open}
-use Rattle.laws.proofs.Soundness.{Sound}
-use Rattle.laws.proofs.Rows.{Stand, standing, few-rows, find-some, Fails, find-none, Only, find-only}
+use Rattle.laws.specs.Order.{OnOpen}
+use Rattle.walks.specs.Lists.{All}
+use Rattle.walks.proofs.Alls.{all-map}
+use Rattle.rules.proofs.Keys.{once-file, once-open}
+use Rattle.rules.proofs.Soundness.{Sound}
+use Rattle.rules.proofs.Rows.{Stand, standing, few-rows, find-some, Fails, find-none, Only, find-only}
 use Rattle.laws.proofs.Entries.{legal-short}
 use Rattle.laws.proofs.Good.{Good, One, Two, Gone, Made, nothing-good}
 use Rattle.laws.proofs.OneEntry.{clearing, giving}

@@ -15,9 +15,10 @@ use Rattle.meaning.specs.Batch.{serve, wordsAfter, answersTo}
 use Rattle.meaning.specs.declared.Key.{Key}
 use Rattle.meaning.specs.declared.Key.the-variants.{File, Open}
 use Rattle.meaning.specs.Keys.{holds}
-use Rattle.laws.specs.Order.{InBatch, Names, Apart, All, Pairwise, Batch3, Answered, paired, Ordered, Demand3}
-use Rattle.laws.proofs.Alls.{all-perm, pairwise-perm}
-use Rattle.laws.proofs.Soundness.{sound, data-blocks}
+use Rattle.laws.specs.Order.{InBatch, Names, Apart, Batch3, Answered, paired, Ordered, Demand3}
+use Rattle.walks.specs.Lists.{All, Pairwise}
+use Rattle.walks.proofs.Alls.{all-perm, pairwise-perm}
+use Rattle.rules.proofs.Soundness.{sound, data-blocks}
 use Rattle.laws.proofs.Writes.{length-write}
 use Rattle.laws.proofs.Deeds.{file-key, open-key}
 use Rattle.laws.proofs.Served.{plan, plan-found, serve-words, serve-kept}

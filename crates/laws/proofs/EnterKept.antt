@@ -20,12 +20,13 @@ use Rattle.meaning.specs.Enter.{Size, exact, sizeOf, Area, wanted, entered, fir
 use Rattle.meaning.specs.declared.Key.{Key}
 use Rattle.meaning.specs.declared.Key.the-variants.{File, Open}
 use Rattle.meaning.specs.Keys.{keyOf, holds}
-use Rattle.laws.specs.Order.{All}
+use Rattle.walks.specs.Lists.{All}
 use Rattle.laws.specs.Refusals.{beforeRoom}
 use Rattle.laws.specs.Room.{SameFile, KeptByEnter}
-use Rattle.laws.proofs.Keys.{has-key, file≢open, IsOpen, open-holds, one-key, other-key}
+use Rattle.rules.proofs.Keys.{file≢open, IsOpen, open-holds, one-key, other-key}
+use Rattle.walks.proofs.Keyed.{has-key}
 use Rattle.laws.proofs.Refusals.{not-among}
-use Rattle.laws.proofs.Soundness.{Sound, sound, faultless}
+use Rattle.rules.proofs.Soundness.{Sound, sound, faultless}
 use Rattle.laws.proofs.Entries.{legal-short}
 use Rattle.laws.proofs.Living.{Live, livingOf, seek, face, found, Gained, gained-beside, gained-there}
 use Rattle.laws.proofs.Way.{Used, chain-used}

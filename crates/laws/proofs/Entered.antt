@@ -21,13 +21,15 @@ use Rattle.meaning.specs.Requests.{render}
 use Rattle.meaning.specs.Enter.{withSegment, headerOf, Area, costAfter, hasRoom, inserted, kept, unsplit, split, entered}
 use Rattle.meaning.specs.declared.Key.{Key}
 use Rattle.meaning.specs.Keys.{holds, once}
-use Rattle.laws.specs.Sound.{Rule2}
-use Rattle.laws.proofs.Rule5.{rule1-holds, rule2-holds}
-use Rattle.laws.proofs.Soundness.{Sound, total-append}
-use Rattle.laws.proofs.Move.{head-word}
-use Rattle.laws.proofs.Fine.{flag}
-use Rattle.laws.proofs.Rendered.{Body, Written, written, length-render, header-length, header-word, with-length, with-own}
-use Rattle.laws.proofs.Rendered.{with-other}
+use Rattle.rules.specs.Sound.{Rule2}
+use Rattle.rules.proofs.Rule5.{rule1-holds, rule2-holds}
+use Rattle.rules.proofs.Soundness.{Sound}
+use Rattle.walks.proofs.Filled.{total-append}
+use Rattle.walks.proofs.Fits.{cost-small}
+use Rattle.walks.proofs.Words.{header as head-word, header-length, header-word, with-length, with-own, with-other}
+use Rattle.walks.proofs.Flat.{render-length}
+use Rattle.rules.proofs.Fine.{flag}
+use Rattle.laws.proofs.Rendered.{Body, Written, written}
 use Rattle.laws.proofs.Living.{Live, living, livingOf, seek, counted, Gained, gained-within, gained-few}
 use Rattle.laws.proofs.Way.{shapeOf, entriesIn, spread, Stop, Like}
 use Rattle.laws.proofs.Anew.{stop-at, Change, Anew, anew}
@@ -40,7 +42,9 @@ use Rattle.laws.proofs.Halves.{Parted, parted, Halves, halves}
 -- setting the word of H changes no other header word, and no slot
 top-head : (d : List ℕ) (s j x : ℕ) → j < 5 → j ≢ 2 → getD (segment (set d 2 x) s) j 0 ≡ getD (segment d s) j 0
 top-head d s j x h ne =
-    head-word (set d 2 x) s j h ∙ getD-set-other d 2 (512 * (s - 1) + j) x 0 (λ e. ne (omega arith)) ∙ sym (head-word d s j h)
+    head-word (set d 2 x) s j (omega arith)
+    ∙ getD-set-other d 2 (512 * (s - 1) + j) x 0 (λ e. ne (omega arith))
+    ∙ sym (head-word d s j (omega arith))
 
 top-slots : (w : ℕ) (d : List ℕ) (s x : ℕ) → slots w (segment (set d 2 x) s) ≡ slots w (segment d s)
 unfolding slots segment
@@ -49,11 +53,6 @@ top-slots w d s x = ap (chunks (slotCount w) w) (go (s - 1))
     go : (t : ℕ) → drop 5 (take 512 (drop (512 * t) (set d 2 x))) ≡ drop 5 (take 512 (drop (512 * t) d))
     go zero = rw (take-set-lt 512 d 2 x (omega arith)) (drop-set-lt 5 (take 512 d) 2 x (omega arith))
     go (suc t) = rw (drop-set-lt (512 * suc t) d 2 x (omega arith))
-
-cost-most : (p : Bool) → costAfter p ≤ 2
-unfolding costAfter
-cost-most true = omega arith
-cost-most false = omega arith
 
 pub record Entered (v : ℕ) (t D : List ℕ) (x : Live) : Type 0 where
   pub sound : Sound v D
@@ -182,7 +181,7 @@ module _ (v : ℕ) (t : List ℕ) (st : Sound v t) (a : Area) (n : ℕ) (new : E
     pa = parted es (bd .fine)
 
     cost2 : a .cost ≤ 2
-    cost2 = rw (x .cost) (cost-most (flag false (x .before)))
+    cost2 = rw (x .cost) (cost-small (flag false (x .before)))
 
     head-long : length header ≡ 5
     head-long = header-length t s low inside
@@ -210,26 +209,26 @@ module _ (v : ℕ) (t : List ℕ) (st : Sound v t) (a : Area) (n : ℕ) (new : E
 
     -- the segments of the directory afterwards
     long1 : length t1 ≡ length t
-    long1 = with-length t s g1 low inside (length-render (set header 1 next) lower)
+    long1 = with-length t s g1 low inside (render-length (set header 1 next) lower)
 
     inside1 : 512 * next ≤ length t1
     inside1 = omega (arith, long1, rule1-holds v t (st .size) .whole)
 
     long2 : length t2 ≡ length t
-    long2 = with-length t1 next g2 (omega arith) inside1 (length-render newHeader upper) ∙ long1
+    long2 = with-length t1 next g2 (omega arith) inside1 (render-length newHeader upper) ∙ long1
 
     at-own : segment t2 s ≡ g1
     at-own =
-        with-other t1 next g2 (omega arith) inside1 (length-render newHeader upper) s low (λ e. omega (arith, high))
-        ∙ with-own t s g1 low inside (length-render (set header 1 next) lower)
+        with-other t1 next g2 (omega arith) inside1 (render-length newHeader upper) s low (λ e. omega (arith, high))
+        ∙ with-own t s g1 low inside (render-length (set header 1 next) lower)
 
     at-next : segment t2 next ≡ g2
-    at-next = with-own t1 next g2 (omega arith) inside1 (length-render newHeader upper)
+    at-next = with-own t1 next g2 (omega arith) inside1 (render-length newHeader upper)
 
     other-segment : (z : ℕ) → 1 ≤ z → z ≤ highest t → z ≢ s → segment t2 z ≡ segment t z
     other-segment z l i ne =
-        with-other t1 next g2 (omega arith) inside1 (length-render newHeader upper) z l (λ e. omega arith)
-        ∙ with-other t s g1 low inside (length-render (set header 1 next) lower) z l ne
+        with-other t1 next g2 (omega arith) inside1 (render-length newHeader upper) z l (λ e. omega arith)
+        ∙ with-other t s g1 low inside (render-length (set header 1 next) lower) z l ne
 
     -- a segment of D by the segment of t2
     word : (z j : ℕ) (g : List ℕ) → segment t2 z ≡ g → j < 5 → j ≢ 2 → getD (segment D z) j 0 ≡ getD g j 0

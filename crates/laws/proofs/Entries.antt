@@ -17,9 +17,9 @@ use Rattle.meaning.specs.Words.{kind, nameOf, blocks, dateOf}
 use Rattle.meaning.specs.Sound.{longName}
 use Rattle.meaning.specs.Requests.{legal}
 use Rattle.walks.specs.Scan.{longNamed}
-use Rattle.laws.proofs.Keys.{IsFile}
-use Rattle.laws.proofs.Grid.{entryAt, length-at}
-use Rattle.laws.proofs.Rows.{Slot}
+use Rattle.rules.proofs.Keys.{IsFile}
+use Rattle.rules.proofs.Grid.{entryAt, length-at}
+use Rattle.rules.proofs.Rows.{Slot}
 
 pub data Seven : Entry → Type 0 where
   seven : (x0 x1 x2 x3 x4 x5 x6 : ℕ) (xs : List ℕ) → Seven (x0 ∷ x1 ∷ x2 ∷ x3 ∷ x4 ∷ x5 ∷ x6 ∷ xs)

@@ -11,14 +11,14 @@ use Rattle.meaning.specs.Words.{slotWords, Entry, kind, blocks, dateOf, Row, ro
 use Rattle.meaning.specs.Answers.{Write, write}
 use Rattle.meaning.specs.declared.Key.{Key}
 use Rattle.meaning.specs.Keys.{holds, once}
-use Rattle.laws.specs.Order.{All}
-use Rattle.laws.proofs.Alls.{all-both}
-use Rattle.laws.proofs.Grid.{entryAt}
+use Rattle.walks.specs.Lists.{All}
+use Rattle.walks.proofs.Alls.{all-both}
+use Rattle.rules.proofs.Grid.{entryAt}
 use Rattle.laws.proofs.Writes.{Fit, edit, at-write, length-write, head-write}
-use Rattle.laws.proofs.Keys.{same-key}
-use Rattle.laws.proofs.Touch.{Touch, keep}
+use Rattle.rules.proofs.Keys.{same-key}
+use Rattle.rules.proofs.Touch.{Touch, keep}
 use Rattle.laws.proofs.Move.{Move}
-use Rattle.laws.proofs.Rows.{Stand}
+use Rattle.rules.proofs.Rows.{Stand}
 use Rattle.laws.proofs.Keeps.{After, nothing, Source, other, from, nowhere}
 
 -- a place that a request owns, of which C are the keys that it names

@@ -14,10 +14,10 @@ use Rattle.meaning.specs.declared.Kind.the-variants.{Empty}
 use Rattle.meaning.specs.Words.{Entry, lengthWord, kind, blocks, total}
 use Rattle.meaning.specs.Requests.{emptyEntry}
 use Rattle.meaning.specs.Enter.{inserted, endsTentative, kept}
-use Rattle.laws.proofs.Alls.{all-left, all-right}
-use Rattle.laws.proofs.Soundness.{total-append}
-use Rattle.laws.proofs.Fine.{Fine, flag, okay-free, flag-append, fine-after, fine-before}
-use Rattle.laws.proofs.Rendered.{Words, Wide}
+use Rattle.walks.proofs.Alls.{all-left, all-right}
+use Rattle.walks.proofs.Filled.{total-append}
+use Rattle.rules.proofs.Fine.{Fine, flag, okay-free, flag-append, fine-after, fine-before}
+use Rattle.walks.proofs.Flat.{OfWords, Wide}
 use Rattle.laws.proofs.Inserted.{Added}
 
 -- where entries are split: h of them are kept
@@ -134,8 +134,8 @@ module _ (w : ℕ) (new : Entry) (n at cost k : ℕ) (es : List Entry) (inside :
         joined = e;
         fine-lower = fine-before lower upper false f c;
         fine-upper = subst (λ (p : Bool). Fine p upper) c (fine-after lower upper false f);
-        wide-lower = all-left (Words w) lower upper a;
-        wide-upper = all-right (Words w) lower upper a;
+        wide-lower = all-left (OfWords w) lower upper a;
+        wide-upper = all-right (OfWords w) lower upper a;
         sum-lower = t;
         long-lower = l;
         long-upper = u;

@@ -17,11 +17,11 @@ use Rattle.meaning.specs.Words.{Entry, lengthWord, kind, blocks, total}
 use Rattle.meaning.specs.Requests.{entryOf, emptyEntry}
 use Rattle.meaning.specs.Enter.{costAfter, inserted}
 use Rattle.walks.specs.Scan.{longNamed}
-use Rattle.laws.proofs.Alls.{all-append, all-left, all-right}
-use Rattle.laws.proofs.Soundness.{total-append}
+use Rattle.walks.proofs.Alls.{all-append, all-left, all-right}
+use Rattle.walks.proofs.Filled.{total-append}
 use Rattle.laws.proofs.Entries.{Grown}
-use Rattle.laws.proofs.Fine.{free, used, Fine, flag, fine-after, fine-with}
-use Rattle.laws.proofs.Rendered.{Words, Wide}
+use Rattle.rules.proofs.Fine.{free, used, Fine, flag, fine-after, fine-with}
+use Rattle.walks.proofs.Flat.{OfWords, Wide}
 use Rattle.laws.proofs.Living.{Live, living, living-area, living-other, living-append, Gained}
 use Rattle.laws.proofs.Tidying.{resized}
 
@@ -117,8 +117,8 @@ module _ (w n : ℕ) (enough : 7 ≤ w) (new : Entry) (nw : New w n new) where
               fine-with xs (x ∷ ys) (gap w p ++ tail) false f
               (bh .fine (used (inr (nw .tentative)) refl (nw .short), (free kx′, rw kx′ rest)));
           wide =
-              all-append (Words w) xs (gap w p ++ tail) (all-left (Words w) xs (x ∷ ys) a)
-              (bh .wide (nw .wide, (length-set x lengthWord (blocks x - n) ∙ lx, all-right (Words w) xs (x ∷ ys) a .1)));
+              all-append (OfWords w) xs (gap w p ++ tail) (all-left (OfWords w) xs (x ∷ ys) a)
+              (bh .wide (nw .wide, (length-set x lengthWord (blocks x - n) ∙ lx, all-right (OfWords w) xs (x ∷ ys) a .1)));
           sum =
               let t1 = total-append xs (gap w p ++ tail) in
               let t2 = total-append xs (x ∷ ys) in
@@ -161,4 +161,4 @@ module _ (w n : ℕ) (enough : 7 ≤ w) (new : Entry) (nw : New w n new) where
   added-in es xs x ys k cost e i c kx le f a =
       let g : Fine false (xs ++ x ∷ ys) = subst (Fine false) e f in
       let h : Wide w (xs ++ x ∷ ys) = subst (Wide w) e a in
-      rw (e, i, c) (added xs x ys kx (all-right (Words w) xs (x ∷ ys) h .0) le g h)
+      rw (e, i, c) (added xs x ys kx (all-right (OfWords w) xs (x ∷ ys) h .0) le g h)

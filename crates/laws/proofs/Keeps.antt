@@ -12,14 +12,14 @@ use Rattle.meaning.specs.Words.{slotWords, Entry, chain, Row, rows, allEntries}
 use Rattle.meaning.specs.Answers.{find}
 use Rattle.meaning.specs.declared.Key.{Key}
 use Rattle.meaning.specs.Keys.{holds, once}
-use Rattle.laws.specs.Order.{All}
-use Rattle.laws.proofs.Alls.{all-map}
-use Rattle.laws.proofs.Keys.{one-key, empty-holds, count}
-use Rattle.laws.proofs.Grid.{entryAt}
-use Rattle.laws.proofs.Soundness.{Sound}
-use Rattle.laws.proofs.Touch.{Touch, keep, area, gone, made, live-still, shifted}
+use Rattle.walks.specs.Lists.{All}
+use Rattle.walks.proofs.Alls.{all-map}
+use Rattle.rules.proofs.Keys.{one-key, empty-holds, count}
+use Rattle.rules.proofs.Grid.{entryAt}
+use Rattle.rules.proofs.Soundness.{Sound}
+use Rattle.rules.proofs.Touch.{Touch, keep, area, gone, made, live-still, shifted}
 use Rattle.laws.proofs.Move.{Move, chain-same, bad1-same, bad2-same, linked-same, readable-kept, filled-same, rows-moved}
-use Rattle.laws.proofs.Rows.{Stand, standing, entry-of, entries-rows, few-rows, find-some, find-tied, count-tied}
+use Rattle.rules.proofs.Rows.{Stand, standing, entry-of, entries-rows, few-rows, find-some, find-tied, count-tied}
 
 -- whether the key k is that of the row afterwards, by a test of its entry before
 abbrev pub After : List ℕ → List ℕ → Key → (Entry → Bool) → Row → Type 0

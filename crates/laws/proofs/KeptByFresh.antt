@@ -8,7 +8,7 @@ use mathlib.Core.Path.{_≡_, refl, ap, _∙_}
 use mathlib.Core.Bool.{Bool, true, false}
 use mathlib.Core.List.{List, [], _∷_, _++_, map}
 use mathlib.Core.Option.{none}
-use lib.ListN.{length, getD, replicate, length-append, length-take, length-replicate, List·getD-append}
+use lib.ListN.{length, getD, replicate, length-append, length-replicate, List·getD-append}
 use lib.Seq.{getD-take, getD-append-add, getD-at}
 use lib.Dec.{leb}
 use borrow.Author.Tests.{leb-true, eq-eqb}
@@ -25,14 +25,16 @@ use Rattle.meaning.specs.declared.Name.{Name}
 use Rattle.meaning.specs.declared.Key.{Key}
 use Rattle.meaning.specs.declared.Key.the-variants.{File}
 use Rattle.meaning.specs.Keys.{holds, once}
-use Rattle.laws.specs.Sound.{Rule1, Rule2}
-use Rattle.laws.specs.Order.{All}
-use Rattle.laws.proofs.Rule5.{rule1-holds, rule1-tested, rule2-tested}
-use Rattle.laws.proofs.Keys.{empty-holds, count}
-use Rattle.laws.proofs.Grid.{entryAt, word-at, grid, slots-grid}
+use Rattle.rules.specs.Sound.{Rule1, Rule2}
+use Rattle.walks.specs.Lists.{All}
+use Rattle.rules.proofs.Rule5.{rule1-holds, rule1-tested, rule2-tested}
+use Rattle.rules.proofs.Keys.{empty-holds, count}
+use Rattle.rules.proofs.Grid.{entryAt, word-at, grid, slots-grid}
 use Rattle.laws.specs.Kept.{KeptByFresh}
 use Rattle.laws.proofs.Lookups.{lookup-seen}
-use Rattle.laws.proofs.Soundness.{slotsOf, Readable, Sound, faultless}
+use Rattle.rules.proofs.Soundness.{Readable, Sound, faultless}
+use Rattle.walks.proofs.Slots.{slotsOf}
+use Rattle.walks.proofs.Flat.{entry-length, render-length}
 
 -- the words that the rules look at, in a directory of N segments with E extra words
 pub record Started (v N E : ℕ) (D : List ℕ) : Type 0 where
@@ -60,34 +62,20 @@ module _ (v N E : ℕ) (least : 1 ≤ N) (most : E ≤ 16) where
   abbrev end : List ℕ
   end = endStatus ∷ replicate 512 0
 
-  entry-length : length entry ≡ 7 + E
-  unfolding entryOf
-  entry-length = let l = length-replicate {A = ℕ} (7 + E - 7) 0 in omega arith
-
-  end-length : length end ≡ 513
-  end-length = ap suc (length-replicate {A = ℕ} 512 0)
-
-  segment-length : length (render header (entry ∷ [])) ≡ 512
-  unfolding render flat
-  segment-length =
-      length-take 512 (header ++ (entry ++ end))
-      ∙ (let a = length-append header (entry ++ end) in
-      let b = length-append entry end in
-      let c = entry-length in
-      let e = end-length in
-      omega arith)
+  entry-words : length entry ≡ 7 + E
+  entry-words = entry-length (7 + E) _ _ _ _ _ (omega arith)
 
   all-length : length started ≡ 512 * N
   all-length =
       length-append (render header (entry ∷ [])) (replicate (512 * (N - 1)) 0)
-      ∙ (rw (segment-length, length-replicate {A = ℕ} (512 * (N - 1)) 0) (omega arith))
+      ∙ (rw (render-length header (entry ∷ []), length-replicate {A = ℕ} (512 * (N - 1)) 0) (omega arith))
 
   marked : getD (render header (entry ∷ [])) (5 + (7 + E)) 0 ≡ endStatus
   unfolding render flat
   marked =
       getD-take 512 (header ++ (entry ++ end)) (5 + (7 + E)) 0 (omega arith)
       ∙ getD-append-add header (entry ++ end) (7 + E) 0
-      ∙ getD-at entry endStatus (replicate 512 0) 0 (7 + E) entry-length
+      ∙ getD-at entry endStatus (replicate 512 0) 0 (7 + E) entry-words
 
   is-started : Started v N E started
   unfolding render flat entryOf
@@ -103,7 +91,7 @@ module _ (v N E : ℕ) (least : 1 ≤ N) (most : E ≤ 16) where
         length = refl;
         marker =
             List·getD-append (render header (entry ∷ [])) (replicate (512 * (N - 1)) 0) 0 (5 + (7 + E))
-            (let l = segment-length in omega arith)
+            (let l = render-length header (entry ∷ []) in omega arith)
             ∙ marked;
       }
 

@@ -15,8 +15,8 @@ use Rattle.meaning.specs.Answers.{openOn}
 use Rattle.meaning.specs.Requests.{legal, lookup, rename, close, finalLength, goodChannel, wordOf}
 use Rattle.meaning.specs.declared.Key.the-variants.{File, Open}
 use Rattle.laws.specs.Kept.{KeptByDelete, KeptByAbandon, KeptByRename, KeptByClose}
-use Rattle.laws.proofs.Keys.{once-file, file≢open}
-use Rattle.laws.proofs.Soundness.{sound}
+use Rattle.rules.proofs.Keys.{once-file, file≢open}
+use Rattle.rules.proofs.Soundness.{sound}
 use Rattle.laws.proofs.Good.{Good, Two}
 use Rattle.laws.proofs.Plans.{Plan, deletePlan, renamePlan, closePlan, delete-is, abandon-is, rename-is, close-is}
 use Rattle.laws.proofs.Deeds.{file-key, open-key, file-gone, file-made, rename-made, openAt, CloseNames, AbandonNames}

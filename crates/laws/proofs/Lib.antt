@@ -1,18 +1,6 @@
-pub mod Rule3
-pub mod Rule4
-pub mod Rule5
-pub mod Rule6
-pub mod Sound
 pub mod Refusals
-pub mod Alls
-pub mod Keys
-pub mod Soundness
-pub mod Grid
 pub mod Writes
-pub mod Touch
 pub mod Move
-pub mod Rows
-pub mod Blocks
 pub mod Keeps
 pub mod Entries
 pub mod Good
@@ -28,8 +16,6 @@ pub mod Lookups
 pub mod KeptByRequests
 pub mod KeptByFresh
 pub mod Kept
-pub mod Grown
-pub mod Fine
 pub mod Rendered
 pub mod Living
 pub mod Way

@@ -18,8 +18,8 @@ use Rattle.meaning.specs.Answers.{find}
 use Rattle.meaning.specs.Enter.{isArea}
 use Rattle.meaning.specs.declared.Key.{Key}
 use Rattle.meaning.specs.Keys.{holds}
-use Rattle.laws.proofs.Keys.{empty-holds, count}
-use Rattle.laws.proofs.Soundness.{Sound}
+use Rattle.rules.proofs.Keys.{empty-holds, count}
+use Rattle.rules.proofs.Soundness.{Sound}
 use Rattle.walks.proofs.Told.{empty-kind}
 
 pub record Live : Type 0 where

@@ -15,8 +15,8 @@ use Rattle.meaning.specs.Requests.{legal, successWith, lookup}
 use Rattle.meaning.specs.declared.Key.{Key}
 use Rattle.meaning.specs.declared.Key.the-variants.{File}
 use Rattle.meaning.specs.Keys.{holds, once}
-use Rattle.laws.specs.Order.{All}
-use Rattle.laws.proofs.Soundness.{sound, faultless}
+use Rattle.walks.specs.Lists.{All}
+use Rattle.rules.proofs.Soundness.{sound, faultless}
 use Rattle.laws.proofs.Keeps.{After, nothing, reread, stays-sound, found-other, found-from, found-nowhere}
 use Rattle.laws.proofs.Good.{Good, Made}
 use Rattle.laws.proofs.Deeds.{file-key}

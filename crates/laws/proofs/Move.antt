@@ -6,18 +6,19 @@ use mathlib.Core.Bool.{false}
 use mathlib.Core.List.{List, [], _∷_, _++_, map, map-append}
 use native.Mathlib.Nat.{add-zero, zero-add}
 use native.Mathlib.Omega.{arith}
-use lib.ListN.{length, getD, drop}
-use lib.Seq.{getD-take, getD-drop}
+use lib.ListN.{length, getD}
 use Rattle.meaning.specs.Words.{firstData, segment, linkOf, firstOf, highest, slotWords, slotCount, Entry}
 use Rattle.meaning.specs.Words.{entries, total, chainFrom, chain, Row, segmentRows, rowsOf, rows}
 use Rattle.meaning.specs.Sound.{bad1, bad2, filled}
 use Rattle.walks.specs.Links.{linked}
+use Rattle.walks.proofs.Words.{header}
 use Rattle.meaning.specs.declared.Key.{Key}
-use Rattle.laws.specs.Order.{All}
-use Rattle.laws.proofs.Alls.{all-map}
-use Rattle.laws.proofs.Grid.{entryAt, gridOf, slots-grid, OnGrid, Placed, grid-placed}
-use Rattle.laws.proofs.Soundness.{slotsOf, Readable}
-use Rattle.laws.proofs.Touch.{At, shifted, slots-kept, total-kept, rows-kept}
+use Rattle.walks.specs.Lists.{All}
+use Rattle.walks.proofs.Alls.{all-map}
+use Rattle.rules.proofs.Grid.{entryAt, gridOf, slots-grid, OnGrid, Placed, grid-placed}
+use Rattle.rules.proofs.Soundness.{Readable}
+use Rattle.walks.proofs.Slots.{slotsOf}
+use Rattle.rules.proofs.Touch.{At, shifted, slots-kept, total-kept, rows-kept}
 
 -- C: the keys that are named; δ: by how much the first block of the slot at a place falls, that of a segment's first slot by 0
 pub record Move (C : Key → Type 0) (δ : ℕ → ℕ) (d d′ : List ℕ) : Type 0 where
@@ -25,11 +26,6 @@ pub record Move (C : Key → Type 0) (δ : ℕ → ℕ) (d d′ : List ℕ) : Ty
   pub heads : (s j : ℕ) → j < 5 → getD d′ (512 * s + j) 0 ≡ getD d (512 * s + j) 0
   pub start : (s : ℕ) → δ (512 * s + 5) ≡ 0
   pub at : (p : ℕ) → OnGrid (slotWords d) p → At C δ (slotWords d) (entryAt d (slotWords d)) (entryAt d′ (slotWords d)) p
-
--- a header word of a segment, in the directory
-pub head-word : (d : List ℕ) (s j : ℕ) → j < 5 → getD (segment d s) j 0 ≡ getD d (512 * (s - 1) + j) 0
-unfolding segment
-head-word d s j h = getD-take 512 (drop (512 * (s - 1)) d) j 0 (omega arith) ∙ getD-drop (512 * (s - 1)) d j 0
 
 module _ (C : Key → Type 0) (δ : ℕ → ℕ) (d d′ : List ℕ) (m : Move C δ d d′) where
   abbrev w : ℕ
@@ -43,7 +39,7 @@ module _ (C : Key → Type 0) (δ : ℕ → ℕ) (d d′ : List ℕ) (m : Move C
 
   -- headers
   head-same : (s j : ℕ) → j < 5 → getD (segment d′ s) j 0 ≡ getD (segment d s) j 0
-  head-same s j h = head-word d′ s j h ∙ m .heads (s - 1) j h ∙ sym (head-word d s j h)
+  head-same s j h = header d′ s j (omega arith) ∙ m .heads (s - 1) j h ∙ sym (header d s j (omega arith))
 
   word0 : getD d′ 0 0 ≡ getD d 0 0
   word0 = m .heads 0 0 (omega arith)

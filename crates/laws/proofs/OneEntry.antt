@@ -18,13 +18,13 @@ use Rattle.meaning.specs.Requests.{emptying, renaming}
 use Rattle.meaning.specs.declared.Key.{Key}
 use Rattle.meaning.specs.declared.Key.the-variants.{File}
 use Rattle.meaning.specs.Keys.{holds, once}
-use Rattle.laws.specs.Order.{All}
-use Rattle.laws.proofs.Alls.{all-map, all-both}
-use Rattle.laws.proofs.Grid.{entryAt, OnGrid}
+use Rattle.walks.specs.Lists.{All}
+use Rattle.walks.proofs.Alls.{all-map, all-both}
+use Rattle.rules.proofs.Grid.{entryAt, OnGrid}
 use Rattle.laws.proofs.Writes.{Fit, edit, sets, To, edit-to, edit-away, at-write}
-use Rattle.laws.proofs.Keys.{IsFile, is-file, file-holds, empty-holds, other-key}
-use Rattle.laws.proofs.Touch.{Touch, keep, gone, made}
-use Rattle.laws.proofs.Rows.{Stand, Fails, Only}
+use Rattle.rules.proofs.Keys.{IsFile, is-file, file-holds, empty-holds, other-key}
+use Rattle.rules.proofs.Touch.{Touch, keep, gone, made}
+use Rattle.rules.proofs.Rows.{Stand, Fails, Only}
 use Rattle.laws.proofs.Keeps.{After, nothing, Source}
 use Rattle.laws.proofs.Entries.{slot-seven, Cleared, cleared, Renamed, renamed, file-short}
 use Rattle.laws.proofs.Good.{Owned, mine, Owns, Good, One, Two, Gone, Made, gone-source, made-source, good, after-writes}

@@ -13,11 +13,11 @@ use Rattle.meaning.specs.Requests.{render}
 use Rattle.meaning.specs.Enter.{withSegment, headerOf}
 use Rattle.meaning.specs.declared.Key.{Key}
 use Rattle.meaning.specs.Keys.{holds, once}
-use Rattle.laws.proofs.Rule5.{rule1-holds, rule2-holds}
-use Rattle.laws.proofs.Soundness.{Sound}
-use Rattle.laws.proofs.Move.{head-word}
-use Rattle.laws.proofs.Rendered.{Body, body, Written, written, length-render, header-length, header-word, with-length, with-own}
-use Rattle.laws.proofs.Rendered.{with-other}
+use Rattle.rules.proofs.Rule5.{rule1-holds, rule2-holds}
+use Rattle.rules.proofs.Soundness.{Sound}
+use Rattle.walks.proofs.Words.{header, header-length, header-word, with-length, with-own, with-other}
+use Rattle.walks.proofs.Flat.{render-length}
+use Rattle.laws.proofs.Rendered.{Body, body, Written, written}
 use Rattle.laws.proofs.Living.{Live, living, livingOf, counted}
 use Rattle.laws.proofs.Way.{shapeOf, Stop, entriesIn, Like}
 use Rattle.laws.proofs.Anew.{stop-at, Change, Anew, anew}
@@ -63,13 +63,13 @@ module _ (v : ℕ) (d : List ℕ) (sd : Sound v d) (s : ℕ) (low : 1 ≤ s) (hi
   wr = written w (headerOf d s) out (omega arith) (header-length d s low inside) bd
 
   own-is : segment D s ≡ g
-  own-is = with-own d s g low inside (length-render (headerOf d s) out)
+  own-is = with-own d s g low inside (render-length (headerOf d s) out)
 
   other-is : (z : ℕ) → 1 ≤ z → z ≢ s → segment D z ≡ segment d z
-  other-is z l ne = with-other d s g low inside (length-render (headerOf d s) out) z l ne
+  other-is z l ne = with-other d s g low inside (render-length (headerOf d s) out) z l ne
 
   size-is : length D ≡ length d
-  size-is = with-length d s g low inside (length-render (headerOf d s) out)
+  size-is = with-length d s g low inside (render-length (headerOf d s) out)
 
   word : (j : ℕ) → j < 5 → getD (segment D s) j 0 ≡ getD (segment d s) j 0
   word j l = rw own-is (wr .heads j l ∙ header-word d s j l)
@@ -81,7 +81,7 @@ module _ (v : ℕ) (d : List ℕ) (sd : Sound v d) (s : ℕ) (low : 1 ≤ s) (hi
   stop = stop-at v d sd s low high
 
   top : highest D ≡ highest d
-  top = sym (head-word D 1 2 (omega arith)) ∙ first (ℕ-discrete 1 s) ∙ head-word d 1 2 (omega arith)
+  top = sym (header D 1 2 (omega arith)) ∙ first (ℕ-discrete 1 s) ∙ header d 1 2 (omega arith)
     where
       first : Dec (1 ≡ s) → getD (segment D 1) 2 0 ≡ getD (segment d 1) 2 0
       first (yes e) = rw e (word 2 (omega arith))

@@ -20,15 +20,15 @@ use Rattle.meaning.specs.Answers.{Outcome, refuse, success}
 use Rattle.meaning.specs.Enter.{longest, default, wrong, exact, sizeOf, atLeast, tidy, Area, costAfter, hasRoom, areasIn, areas}
 use Rattle.meaning.specs.Enter.{eligibles, longEnough, enter}
 use Rattle.walks.proofs.Lists.{chain-length, chain-at}
-use Rattle.laws.specs.Order.{All}
-use Rattle.laws.specs.Sound.{visit}
+use Rattle.walks.specs.Lists.{All}
+use Rattle.rules.specs.Sound.{visit}
 use Rattle.laws.specs.Refusals.{beforeRoom}
 use Rattle.laws.specs.Room.{Run, joinedLength, LongRun, Takes, SlottedRun, Room}
-use Rattle.laws.proofs.Alls.{all-at}
+use Rattle.walks.proofs.Alls.{all-at}
 use Rattle.laws.proofs.Refusals.{not-among}
-use Rattle.laws.proofs.Soundness.{Sound, sound}
-use Rattle.laws.proofs.Fine.{flag}
-use Rattle.laws.proofs.Rendered.{Wide}
+use Rattle.rules.proofs.Soundness.{Sound, sound}
+use Rattle.rules.proofs.Fine.{flag}
+use Rattle.walks.proofs.Flat.{Wide}
 use Rattle.laws.proofs.Way.{Used, chain-used}
 use Rattle.laws.proofs.Anew.{visited}
 use Rattle.laws.proofs.Rewritten.{used-body}

@@ -14,10 +14,10 @@ use Rattle.meaning.specs.declared.Kind.the-variants.{Tentative, Empty}
 use Rattle.meaning.specs.Kinds.{isTentative}
 use Rattle.meaning.specs.Words.{Entry, kind, total}
 use Rattle.meaning.specs.Enter.{isArea, costAfter}
-use Rattle.laws.specs.Order.{All}
+use Rattle.walks.specs.Lists.{All}
 use Rattle.laws.specs.Room.{Run, joinedLength, Takes}
 use Rattle.walks.proofs.Told.{tentative-kind, empty-kind}
-use Rattle.laws.proofs.Fine.{flag}
+use Rattle.rules.proofs.Fine.{flag}
 use Rattle.laws.proofs.Runs.{beginsArea, endsArea, IsArea, RunOf}
 
 -- all of a list, place by place

@@ -15,11 +15,11 @@ use Rattle.bools.proofs.Bools.{both}
 use Rattle.meaning.specs.Kinds.{isTentative}
 use Rattle.meaning.specs.Words.{Entry, lengthWord, kind, blocks, total}
 use Rattle.meaning.specs.Enter.{isArea, joinTo, joined, dropZero, tidy}
-use Rattle.laws.specs.Order.{All}
-use Rattle.laws.proofs.Alls.{all-left, all-right}
-use Rattle.laws.proofs.Fine.{flag}
+use Rattle.walks.specs.Lists.{All}
+use Rattle.walks.proofs.Alls.{all-left, all-right}
+use Rattle.rules.proofs.Fine.{flag}
 use Rattle.walks.proofs.Told.{empty-kind}
-use Rattle.laws.proofs.Rendered.{Words, Wide}
+use Rattle.walks.proofs.Flat.{OfWords, Wide}
 use Rattle.laws.proofs.Tidying.{resized, joined-tidier, drop-tidier}
 
 -- entries that begin with an empty one; and that end with one, where p says it of the one before them
@@ -161,23 +161,23 @@ module _ (w : ℕ) (enough : 7 ≤ w) where
         are =
             ap joined (c .are)
             ∙ joined-apart (c .before) (c .run ++ c .after) wide-rest (rw (c .calm-before))
-            ∙ (rw (joined-apart (c .run) (c .after) (all-right (Words w) (c .run) (c .after) wide-rest) apart, o .is));
+            ∙ (rw (joined-apart (c .run) (c .after) (all-right (OfWords w) (c .run) (c .after) wide-rest) apart, o .is));
         area = o .area;
         size = o .size;
-        flag = joined-tidier w enough false (c .before) (all-left (Words w) (c .before) (c .run ++ c .after) wide-all) .flag;
+        flag = joined-tidier w enough false (c .before) (all-left (OfWords w) (c .before) (c .run ++ c .after) wide-all) .flag;
       }
     where
       wide-all : Wide w (c .before ++ (c .run ++ c .after))
       wide-all = subst (Wide w) (c .are) a
 
       wide-rest : Wide w (c .run ++ c .after)
-      wide-rest = all-right (Words w) (c .before) (c .run ++ c .after) wide-all
+      wide-rest = all-right (OfWords w) (c .before) (c .run ++ c .after) wide-all
 
       apart : endsArea false (c .run) && beginsArea (c .after) ≡ false
       apart = rw (c .calm-after) (and-false (endsArea false (c .run)))
 
       o : OneArea (c .run) (joined (c .run))
-      o = joined-run (c .run) (c .some) (c .areas) (all-left (Words w) (c .run) (c .after) wide-rest)
+      o = joined-run (c .run) (c .some) (c .areas) (all-left (OfWords w) (c .run) (c .after) wide-rest)
 
 -- zeros dropped on both sides of a place
 drop-append : (p : Bool) (xs ys : List Entry) → dropZero p (xs ++ ys) ≡ dropZero p xs ++ dropZero (flag p xs) ys
@@ -362,7 +362,7 @@ module _ (w : ℕ) (enough : 7 ≤ w) where
         size = j .size ∙ r .sum;
         flag =
             drop-tidier w enough false (j .before)
-            (all-left (Words w) (j .before) (j .here ∷ j .after) (subst (Wide w) (j .are) (joined-tidier w enough false es a .wide)))
+            (all-left (OfWords w) (j .before) (j .here ∷ j .after) (subst (Wide w) (j .are) (joined-tidier w enough false es a .wide)))
             .flag
             ∙ j .flag
             ∙ r .flag;
@@ -389,7 +389,7 @@ module _ (w : ℕ) (enough : 7 ≤ w) where
             };
         sum = sym (o .size) ∙ ap blocks same ∙ r .size;
         flag =
-            sym (joined-tidier w enough false (q .before) (all-left (Words w) (q .before) (q .rest) wide-all) .flag)
+            sym (joined-tidier w enough false (q .before) (all-left (OfWords w) (q .before) (q .rest) wide-all) .flag)
             ∙ ap (flag false) (q .front)
             ∙ l .flag
             ∙ r .flag;
@@ -408,7 +408,7 @@ module _ (w : ℕ) (enough : 7 ≤ w) where
       wide-all = subst (Wide w) (q .are) a
 
       wide-rest : Wide w (q .rest)
-      wide-rest = all-right (Words w) (q .before) (q .rest) wide-all
+      wide-rest = all-right (OfWords w) (q .before) (q .rest) wide-all
 
       wide-run : Wide w (s .run ++ s .after)
       wide-run = subst (Wide w) (s .are) wide-rest
@@ -421,12 +421,12 @@ module _ (w : ℕ) (enough : 7 ≤ w) where
       one-false true y h t = absurd (false≢true (sym h ∙ t))
 
       o : OneArea (s .run) (joined (s .run))
-      o = joined-run w enough (s .run) (span-some (q .rest) s begins) (s .areas) (all-left (Words w) (s .run) (s .after) wide-run)
+      o = joined-run w enough (s .run) (span-some (q .rest) s begins) (s .areas) (all-left (OfWords w) (s .run) (s .after) wide-run)
 
       same : o .here ≡ r .here
       same =
           let j =
-          joined-apart w enough (s .run) (s .after) (all-right (Words w) (s .run) (s .after) wide-run)
+          joined-apart w enough (s .run) (s .after) (all-right (OfWords w) (s .run) (s .after) wide-run)
           (rw (s .calm) (and-false (endsArea false (s .run)))) in
           let e : joined (q .rest) ≡ joined (s .run) ++ joined (s .after) = ap joined (s .are) ∙ j in
           let i = ap (λ (x : List Entry). x ++ joined (s .after)) (sym (o .is)) in

@@ -14,8 +14,8 @@ use Rattle.meaning.specs.Batch.{serveBy, serve}
 use Rattle.meaning.specs.declared.Key.{Key}
 use Rattle.meaning.specs.Keys.{holds}
 use Rattle.laws.specs.Order.{InBatch, openFor, NamesBy, Names}
-use Rattle.laws.proofs.Soundness.{Sound, sound, faultless}
-use Rattle.laws.proofs.Rows.{standing}
+use Rattle.rules.proofs.Soundness.{Sound, sound, faultless}
+use Rattle.rules.proofs.Rows.{standing}
 use Rattle.laws.proofs.Keeps.{stays-sound, found-other}
 use Rattle.laws.proofs.Good.{Good, nothing-good}
 use Rattle.laws.proofs.Plans.{Plan, carried, refused, deletePlan, abandonPlan, renamePlan, closePlan}

@@ -20,11 +20,12 @@ use Rattle.meaning.specs.Requests.{emptying, goodChannel, wordOf, closing, fina
 use Rattle.meaning.specs.Batch.{serve}
 use Rattle.meaning.specs.declared.Key.{Key}
 use Rattle.meaning.specs.declared.Key.the-variants.{File, Open}
-use Rattle.laws.specs.Order.{InBatch, openFor, NamesBy, Names, Apart, All}
-use Rattle.laws.proofs.Grid.{OnGrid, far, entryAt}
+use Rattle.laws.specs.Order.{InBatch, openFor, NamesBy, Names, Apart}
+use Rattle.walks.specs.Lists.{All}
+use Rattle.rules.proofs.Grid.{OnGrid, far, entryAt}
 use Rattle.laws.proofs.Writes.{Fit, word-write, write-comm}
-use Rattle.laws.proofs.Keys.{one-key, empty-holds, is-open}
-use Rattle.laws.proofs.Soundness.{Sound, sound, faultless}
+use Rattle.rules.proofs.Keys.{one-key, empty-holds, is-open}
+use Rattle.rules.proofs.Soundness.{Sound, sound, faultless}
 use Rattle.laws.proofs.Move.{width-same}
 use Rattle.laws.proofs.Good.{Owned, mine, after, Owns}
 use Rattle.laws.proofs.Plans.{carried, done, testing, finding, closedPlan, deletePlan, abandonPlan, renamePlan, closePlan}

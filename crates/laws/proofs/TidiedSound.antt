@@ -16,19 +16,19 @@ use Rattle.meaning.specs.Sound.{fault, times}
 use Rattle.meaning.specs.Requests.{render}
 use Rattle.meaning.specs.Enter.{tidy, untidy, withSegment, headerOf, tidiedAt, tidied}
 use Rattle.walks.proofs.Linked.{once as at-most-once}
-use Rattle.walks.proofs.Tidied.{Kept, tidy-kept}
+use Rattle.walks.proofs.Tidied.{Kept, tidy-kept, wide-long}
 use Rattle.walks.proofs.Untidy.{tidy-none}
 use Rattle.meaning.specs.declared.Key.{Key}
 use Rattle.meaning.specs.Keys.{holds, once}
-use Rattle.laws.specs.Order.{All}
-use Rattle.laws.proofs.Alls.{all-map}
-use Rattle.laws.proofs.Soundness.{Sound, sound, faultless}
+use Rattle.walks.specs.Lists.{All}
+use Rattle.walks.proofs.Alls.{all-map}
+use Rattle.rules.proofs.Soundness.{Sound, sound, faultless}
 use Rattle.laws.proofs.Rendered.{Body}
 use Rattle.laws.proofs.Living.{livingOf, counted, count-living}
 use Rattle.laws.proofs.Way.{Used, chain-used}
 use Rattle.laws.proofs.Anew.{visited, visited-times}
 use Rattle.laws.proofs.Rewritten.{used-body, Rewritten, rewritten}
-use Rattle.laws.proofs.Tidying.{Tidier, wide-long, tidy-tidier}
+use Rattle.laws.proofs.Tidying.{Tidier, tidy-tidier}
 
 pub few-living : (v : ℕ) (d : List ℕ) → Sound v d → (k : Key) → once k ≡ true → counted (holds k) (livingOf d) ≤ 1
 few-living v d sd k o = rw (count-living k (allEntries d) (firstData d)) (sd .keys k o)
@@ -163,6 +163,3 @@ tidied-alike v d h = tidied-is v d (sound v d h) .alike
 
 pub tidied-sound : (v : ℕ) (d : List ℕ) → fault v d ≡ 0 → fault v (tidied d (chain d)) ≡ 0
 tidied-sound v d h = faultless v (tidied d (chain d)) (tidied-alike v d h .sound)
-
-pub tidied-chain : (v : ℕ) (d : List ℕ) → fault v d ≡ 0 → chain (tidied d (chain d)) ≡ chain d
-tidied-chain v d h = tidied-alike v d h .chain

@@ -15,11 +15,10 @@ use Rattle.meaning.specs.declared.Kind.the-variants.{Empty}
 use Rattle.meaning.specs.Kinds.{isTentative}
 use Rattle.meaning.specs.Words.{Entry, lengthWord, kind, blocks}
 use Rattle.meaning.specs.Enter.{isArea, joinTo, joined, dropZero, tidy}
-use Rattle.walks.specs.Runs.{Long}
 use Rattle.laws.proofs.Entries.{view, Grown, grown}
-use Rattle.laws.proofs.Fine.{free, Fine, flag}
+use Rattle.rules.proofs.Fine.{free, Fine, flag}
 use Rattle.walks.proofs.Told.{empty-kind}
-use Rattle.laws.proofs.Rendered.{Wide}
+use Rattle.walks.proofs.Flat.{Wide}
 use Rattle.laws.proofs.Living.{living, living-area}
 
 -- what a step keeps, after a tentative entry if p says so
@@ -33,10 +32,6 @@ module _ (w : ℕ) (enough : 7 ≤ w) where
   -- an entry with another length
   pub resized : (e : Entry) (n : ℕ) → length e ≡ w → Grown n e (set e lengthWord n)
   resized e n l = grown e n (view e (omega arith))
-
-  pub wide-long : (es : List Entry) → Wide w es → Long es
-  wide-long [] a = tt
-  wide-long (e ∷ es) a = (omega (arith, a .0), wide-long es (a .1))
 
   same : (p : Bool) (es : List Entry) → Wide w es → Tidier w p es es
   same p es a = record { fine = λ f. f; wide = a; living = λ b. refl; flag = refl }

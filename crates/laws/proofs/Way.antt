@@ -4,15 +4,13 @@
 use Prim.Native.Nat.{ℕ, zero, suc, _+_, _≤_}
 use mathlib.Core.Path.{_≡_, refl, ap, _∙_}
 use mathlib.Core.Logic.{_≢_}
-use mathlib.Core.Bool.{true, false, cond, _&&_}
+use mathlib.Core.Bool.{true, false, cond}
 use mathlib.Core.List.{List, [], _∷_, _++_}
 use native.Mathlib.Nat.{add-zero}
 use native.Mathlib.Omega.{arith}
 use native.Mathlib.Decide.{ℕ-discrete}
 use lib.ListN.{length}
-use lib.Dec.{eqb, leb}
-use borrow.Author.Tests.{eqb-true, leb-true, eq-eqb, ne-eqb, le-leb}
-use Rattle.bools.proofs.Bools.{both}
+use borrow.Author.Tests.{eqb-true, eq-eqb, ne-eqb, le-leb}
 use Rattle.meaning.specs.Words.{firstData, segment, totalOf, linkOf, extraBytesOf, firstOf, highest, slotWords, Entry, slots, upto}
 use Rattle.meaning.specs.Words.{entries, total, chainFrom, chain, entriesOf, allEntries}
 use Rattle.meaning.specs.Sound.{bad1, bad2, filled, times}
@@ -20,9 +18,11 @@ use Rattle.walks.specs.Links.{linked}
 use Rattle.walks.specs.Scan.{scanBad}
 use Rattle.meaning.specs.declared.Key.{Key}
 use Rattle.meaning.specs.Keys.{holds, once}
-use Rattle.laws.specs.Order.{All}
-use Rattle.laws.proofs.Keys.{count}
-use Rattle.laws.proofs.Soundness.{Readable, Sound, total-append}
+use Rattle.walks.specs.Lists.{All}
+use Rattle.rules.proofs.Keys.{count}
+use Rattle.rules.proofs.Soundness.{Readable, Sound}
+use Rattle.walks.proofs.Filled.{total-append, filled-step}
+use Rattle.walks.proofs.Linked.{visit}
 
 -- what each segment is held to: words of a slot, total, extra bytes, H
 pub record Shape : Type 0 where
@@ -152,24 +152,11 @@ to-way : (v : ℕ) (d : List ℕ) (n s b : ℕ) → linked n d s ≡ true → Al
 unfolding linked chainFrom filled entries
 to-way v d zero s b h g f = (eqb-true s 0 h, eqb-true b v f)
 to-way v d (suc n) s b h g f =
-    let l = leb 1 s && leb s (highest d) in
-    let x = eqb (totalOf (segment d s)) (totalOf d) in
-    let y = eqb (extraBytesOf (segment d s)) (extraBytesOf d) in
-    let h4 = both (l && x && y) (linked n d (linkOf (segment d s))) h in
-    let h3 = both (l && x) y (h4 .0) in
-    let h2 = both l x (h3 .0) in
-    let h1 = both (leb 1 s) (leb s (highest d)) (h2 .0) in
-    let e = both (eqb (firstOf (segment d s)) b) (filled v d (b + total (entries d s)) (chainFrom n d (linkOf (segment d s)))) f in (
+    let p = visit n d s h in
+    let e = filled-step v d b s (chainFrom n d (linkOf (segment d s))) f in (
       refl,
-      record {
-        low = leb-true 1 s (h1 .0);
-        high = leb-true s (highest d) (h1 .1);
-        total = eqb-true (totalOf (segment d s)) (totalOf d) (h2 .1);
-        extra = eqb-true (extraBytesOf (segment d s)) (extraBytesOf d) (h3 .1);
-        first = eqb-true (firstOf (segment d s)) b (e .0);
-        readable = g .0;
-      },
-      to-way v d n (linkOf (segment d s)) (b + total (entries d s)) (h4 .1) (g .1) (e .1),
+      record { low = p .low; high = p .high; total = p .total; extra = p .extra; first = e .0; readable = g .0 },
+      to-way v d n (linkOf (segment d s)) (b + total (entries d s)) (p .rest) (g .1) (e .1),
     )
 
 pub sound-way : (v : ℕ) (d : List ℕ) → Sound v d → Way (shapeOf d) d (chain d) 1 (firstData d) 0 v

@@ -11,25 +11,17 @@ use lib.Dec.{eqb}
 use borrow.Author.Tests.{eqb-false, not-true}
 use Rattle.bools.proofs.Bools.{both}
 use lib.IntN.{ℤ, pos}
-use Rattle.names.specs.Text.{bytes}
-use Rattle.names.specs.Radix.{alphabet, shown, spelled, textOf, inName, blank, padded, legalText, spells, legalName}
 use Rattle.meaning.specs.declared.Op.{Op}
 use Rattle.meaning.specs.declared.Op.the-variants.{Close, Abandon, Delete, Rename}
 use Rattle.meaning.specs.declared.Name.{Name}
 use Rattle.meaning.specs.declared.Request.{Request}
 use Rattle.meaning.specs.declared.Answer.{Answer}
-use Rattle.meaning.specs.Kinds.{tentativeStatus, emptyStatus, permanentStatus, kindOf}
-use Rattle.meaning.specs.Words.{segment, sameName, chunks, slots, upto, entries, total, chainFrom, reached, chain, rowsIn, segmentRows}
-use Rattle.meaning.specs.Words.{rowsOf, rows}
-use Rattle.meaning.specs.Words.{entriesOf, allEntries}
-use Rattle.meaning.specs.Sound.{any, bad1, bad2, times, eachOnce, differs, bad3, unmarked, longName, badName, beginsEmpty, alone, badSlots}
-use Rattle.meaning.specs.Keys.{keyOf, holds, once, clash}
-use Rattle.meaning.specs.Sound.{bad4, filled, bad5, clashes, bad6, fault}
-use Rattle.meaning.specs.Answers.{refuse, success, find, fileOf, openOn, write}
-use Rattle.meaning.specs.Requests.{successWith, emptying, delete, channelLimit, goodChannel, abandon, renaming, rename, replacing, closing}
-use Rattle.meaning.specs.Requests.{finalLength, close, entryOf, emptyEntry, flat, render}
-use Rattle.meaning.specs.Batch.{serve, wordsAfter, answersTo}
+use Rattle.meaning.specs.Kinds.{tentativeStatus, emptyStatus, permanentStatus}
+use Rattle.meaning.specs.Sound.{fault}
+use Rattle.meaning.specs.Requests.{entryOf, emptyEntry}
+use Rattle.meaning.specs.Batch.{wordsAfter, answersTo}
 use Rattle.meaning.specs.Examples.{oneSegment}
+use Rattle.meaning.proofs.Opened.{all-names, all-words, all-sound, all-requests}
 use Rattle.meaning.specs.declared.Key.{Key}
 use Rattle.meaning.specs.declared.Key.the-variants.{File, Open}
 use Rattle.laws.specs.Order.{openFor, Names, Apart, Batch3, Ordered}
@@ -90,7 +82,7 @@ computed =
     ∷ []
 
 pub comes-to : computed ≡ 0 ∷ 0 ∷ 0 ∷ 0 ∷ 0 ∷ permanentStatus ∷ emptyStatus ∷ nameOfLetter 4 .first ∷ nameOfLetter 2 .first ∷ []
-unfolding computed d fourRequests bytes alphabet shown spelled textOf inName blank padded legalText spells legalName kindOf segment sameName chunks slots upto entries total chainFrom reached chain rowsIn segmentRows rowsOf rows entriesOf allEntries any bad1 bad2 times eachOnce differs bad3 unmarked longName badName beginsEmpty alone badSlots bad4 filled bad5 keyOf holds once clash clashes bad6 fault refuse success find fileOf openOn write successWith emptying delete channelLimit goodChannel abandon renaming rename replacing closing finalLength close entryOf flat render serve wordsAfter answersTo
+unfolding computed d fourRequests all-names all-words all-sound all-requests
 comes-to = refl
 
 pub is-sound : fault 100 d ≡ 0
@@ -148,12 +140,12 @@ by-rename k (inl n) = inl n
 by-rename k (inr n) = inr (inl n)
 
 by-close : (k : Key) → Names d (asking Close dayChg 3 (pos 12)) k → Of k byClose
-unfolding byClose Names openFor channelLimit goodChannel openOn find keyOf holds kindOf rows rowsOf segmentRows rowsIn entries upto slots chunks segment chain chainFrom d entryOf flat render
+unfolding byClose d Names openFor all-words all-requests
 by-close k (inl n) = inl n
 by-close k (inr n) = inr (inl n)
 
 by-abandon : (k : Key) → Names d (asking Abandon dayChg 4 (pos 0)) k → Of k byAbandon
-unfolding byAbandon Names openFor channelLimit goodChannel openOn find keyOf holds kindOf rows rowsOf segmentRows rowsIn entries upto slots chunks segment chain chainFrom d entryOf flat render
+unfolding byAbandon d Names openFor all-words all-requests
 by-abandon k n = inl n
 
 pub is-batch : Batch3 d fourRequests

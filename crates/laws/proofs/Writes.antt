@@ -12,8 +12,8 @@ use lib.Dec.{eqb}
 use borrow.Author.Tests.{eq-eqb, ne-eqb}
 use Rattle.meaning.specs.Words.{Entry}
 use Rattle.meaning.specs.Answers.{Write, write}
-use Rattle.laws.specs.Order.{All}
-use Rattle.laws.proofs.Grid.{entryAt, OnGrid, tri, SlotsApart, far}
+use Rattle.walks.specs.Lists.{All}
+use Rattle.rules.proofs.Grid.{entryAt, OnGrid, tri, SlotsApart, far}
 
 -- one word set: of the slot that it stands in, and of any other
 at-same : (d : List ℕ) (w p k x : ℕ) → k < w → entryAt (set d (p + k) x) w p ≡ set (entryAt d w p) k x

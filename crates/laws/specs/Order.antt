@@ -19,6 +19,7 @@ use Rattle.meaning.specs.Sound.{fault}
 use Rattle.meaning.specs.Answers.{fileOf, openOn}
 use Rattle.meaning.specs.Requests.{goodChannel, wordOf}
 use Rattle.meaning.specs.Batch.{wordsAfter, answersTo}
+use Rattle.walks.specs.Lists.{All, Pairwise}
 
 -- the requests of such a batch
 abbrev pub InBatch : Op → Type 0
@@ -53,14 +54,6 @@ Names d q k = NamesBy (q .op) d q k
 -- no two name the same
 unfoldable pub Apart : List ℕ → Request → Request → Type 0
 Apart d p q = (k : Key) → Names d p k → Names d q k → ⊥
-
-abbrev pub All {ℓ} : {A : Type ℓ} → (A → Type 0) → List A → Type 0
-All P [] = Unit {0}
-All P (x ∷ xs) = P x × All P xs
-
-abbrev pub Pairwise {ℓ} : {A : Type ℓ} → (A → A → Type 0) → List A → Type 0
-Pairwise R [] = Unit {0}
-Pairwise R (x ∷ xs) = All (R x) xs × Pairwise R xs
 
 -- demand 3's batch
 pub record Batch3 (d : List ℕ) (qs : List Request) : Type 0 where

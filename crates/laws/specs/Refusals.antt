@@ -33,7 +33,7 @@ abbrev pub Among : ℕ → List ℕ → Type 0
 Among n [] = ⊥
 Among n (m ∷ ms) = (n ≡ m) ⊎ Among n ms
 
--- a refusal: first block, length and date all 0, and the directory word for word
+-- a refusal: zeros beside its number, and every word as it was
 pub record Untouched (d : List ℕ) (o : Outcome) : Type 0 where
   pub answer : o .answer ≡ refusal (o .answer .number)
   pub words : o .words ≡ d

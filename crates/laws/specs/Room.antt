@@ -18,7 +18,7 @@ use Rattle.meaning.specs.Sound.{fault}
 use Rattle.meaning.specs.Answers.{Outcome, openOn}
 use Rattle.meaning.specs.Requests.{wordOf, lookup}
 use Rattle.meaning.specs.Enter.{Size, exact, sizeOf, atLeast, tidy, enter}
-use Rattle.laws.specs.Sound.{visit}
+use Rattle.rules.specs.Sound.{visit}
 use Rattle.laws.specs.Refusals.{beforeRoom, Among}
 
 -- a run: n neighbouring empty entries after k others, with none before them and none after
@@ -42,7 +42,7 @@ pub record LongRun (d : List ℕ) (m : ℕ) : Type 0 where
   pub run : Run (entries d (visit d at)) start count
   pub long : m ≤ joinedLength (entries d (visit d at)) start count
 
--- the slots that an entry before a run takes: 2 where a tentative entry stands directly before it, else 1
+-- the slots that an entry before a run takes: a tentative entry that precedes it needs an area of its own, which is a second slot
 pub record Takes (es : List Entry) (k slots : ℕ) : Type 0 where
   pub two : (1 ≤ k) × (kind (getD es (k - 1) []) ≡ Tentative) → slots ≡ 2
   pub one : ((1 ≤ k) × (kind (getD es (k - 1) []) ≡ Tentative) → ⊥) → slots ≡ 1

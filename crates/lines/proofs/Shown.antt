@@ -1,12 +1,12 @@
 -- Names and dates as a row shows them. Words up to 63,999 spell nine characters, which are written in two parts. A word that names
 -- a day has its day from 1 to 31, its month up to 12 and its year in four digits, and any other word is read as day 0, so that the
 -- day that is read tells the two apart. Assumes nothing.
-use Prim.Native.Nat.{ℕ, _≤_, _<_}
+use Prim.Native.Nat.{ℕ, _+_, _≤_, _<_}
 use mathlib.Core.Path.{_≡_, refl, sym, ap, _∙_}
 use mathlib.Core.Bool.{Bool, true, false}
 use mathlib.Core.List.{List, _++_}
 use native.Mathlib.Omega.{arith}
-use lib.ListN.{length, take, drop, length-drop}
+use lib.ListN.{length, take, drop, set, length-set, length-drop}
 use lib.Seq.{length-take-le}
 use borrow.Author.Tests.{le-leb}
 use Rattle.names.specs.Text.{bytes}
@@ -19,22 +19,23 @@ use Rattle.names.proofs.Names.{last-three}
 use Rattle.meaning.specs.Listing.{decimal, twoDigits, dateText}
 use Rattle.lines.specs.Wrote.{Wrote, WroteAtMost}
 use Rattle.lines.specs.Pieces.{dotted}
-use Rattle.lines.proofs.Writes.{both}
+use Rattle.lines.proofs.Writes.{both, and-one}
 
 -- the nine characters of three words, and a dot in them
 pub spelled-text : (a b c : ℕ) (n : NameText) → n ≡ textOfWords a b c → a ≤ 63999 → b ≤ 63999 → c ≤ 63999 → n .text ≡ textOf a b c
 unfolding textOfWords spells
 spelled-text a b c n e ha hb hc = rw (e, le-leb a 63999 ha, le-leb b 63999 hb, le-leb c 63999 hc)
 
-pub dotted-text : {b k m a : List ℕ} {p x y z : ℕ} (t : List ℕ) → length t ≡ 9
-    → Wrote b p (take 6 t) k x → Wrote k x (bytes ".") m y → Wrote m y (take 3 (drop 6 t)) a z → WroteAtMost 10 b p (dotted t) a z
+pub dotted-text : {b k a : List ℕ} {p x z : ℕ} (t : List ℕ) → length t ≡ 9
+    → Wrote b p (take 6 t) k x → Wrote (set k x 46) (x + 1) (take 3 (drop 6 t)) a z → WroteAtMost 10 b p (dotted t) a z
 unfolding dotted bytes
-dotted-text t h u v w =
+dotted-text {k = k} {x = x} t h u w =
+    let long = length-set k x 46 in
     let front = length-take-le 6 t (omega arith) in
     let back = length-drop 6 t in
     let all = last-three t h in
     let e = rw all at w in
-    record { wrote = both (both u v) e; short = omega arith }
+    record { wrote = both (and-one 46 u (omega arith)) e; short = omega arith }
 
 -- a word read as a day that is not 0, or as day 0
 pub record Dated (word : ℕ) (d : WordDay) : Type 0 where

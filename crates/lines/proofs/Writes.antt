@@ -2,13 +2,14 @@
 -- after them. Of two writes, the second at the place where the first ended, the first two parts of the one are the first part of
 -- the other, so that together they are one write of both texts. Assumes nothing.
 use Prim.Native.Nat.{ℕ, suc, _+_, _≤_, _<_}
-use mathlib.Core.Path.{_≡_, refl, sym, ap, _∙_}
+use mathlib.Core.Path.{_≡_, refl, sym, _∙_}
 use mathlib.Core.List.{List, [], _∷_, _++_, append-assoc, append-nil}
 use native.Mathlib.Omega.{arith}
 use native.Mathlib.Nat.{add-zero}
 use native.Mathlib.Numerals.{add-one}
 use lib.ListN.{length, getD, take, drop, set, length-append, length-set, take-append-drop}
-use lib.Seq.{length-take-le, take-at, drop-at, drop-drop, set-split, take-suc, take-length}
+use lib.Seq.{set-split, take-suc, take-length}
+use Rattle.walks.proofs.Words.{both-put}
 use Rattle.lines.specs.Wrote.{Wrote}
 
 -- nothing is written
@@ -31,29 +32,21 @@ one b p x h = record {
 
 -- two writes, one after the other
 pub both : {b l m k a : List ℕ} {p y z : ℕ} → Wrote b p l m y → Wrote m y k a z → Wrote b p (l ++ k) a z
-both {b} {l} {m} {k} {a} {p} {y} {z} u v =
-    let h : p ≤ length b = omega arith in
-    let n : length (l ++ k) ≡ length l + length k = length-append l k in
-    let j : p + length (l ++ k) ≡ p + length l + length k = omega arith in
-    let front : length (take p b ++ l) ≡ p + length l =
-    length-append (take p b) l ∙ ap (λ (i : ℕ). i + length l) (length-take-le p b h) in
-    let head : take (p + length l) m ≡ take p b ++ l =
-    ap (take (p + length l)) (u .is) ∙ take-at (take p b ++ l) (drop (p + length l) b) (p + length l) front in
-    let tail : drop (p + length l) m ≡ drop (p + length l) b =
-    ap (drop (p + length l)) (u .is) ∙ drop-at (take p b ++ l) (drop (p + length l) b) (p + length l) front in
-    let rest : drop (p + length l + length k) m ≡ drop (p + length l + length k) b =
-    sym (drop-drop (length k) (p + length l) m) ∙ ap (drop (length k)) tail ∙ drop-drop (length k) (p + length l) b in
-    record {
-      is = v .is ∙ rw (u .ends, head, rest, j, append-assoc (take p b) l k);
-      ends = v .ends ∙ omega arith;
-      inside = omega arith;
-      long = v .long ∙ u .long;
-    }
+both {b} {l} {m} {k} {a} {p} {y} {z} u v = record {
+  is = both-put b l m k a p (omega (arith, u .ends, u .inside)) (u .is) (v .is ∙ rw (u .ends));
+  ends = v .ends ∙ omega (arith, u .ends, length-append l k);
+  inside = omega (arith, v .inside, u .long);
+  long = v .long ∙ u .long;
+}
 
 -- the same where the second text is itself two, as the meaning brackets them
 pub and-both : {b l m a : List ℕ} {p y z : ℕ} (j k : List ℕ)
     → Wrote b p l m y → Wrote m y (j ++ k) a z → Wrote b p (l ++ j ++ k) a z
 and-both {l = l} j k u v = rw (append-assoc l j k) (both u v)
+
+-- a text, and one byte after it
+pub and-one : {b l m : List ℕ} {p y : ℕ} (x : ℕ) → Wrote b p l m y → y < length b → Wrote b p (l ++ (x ∷ [])) (set m y x) (y + 1)
+and-one {m = m} {y = y} x u h = both u (one m y x (omega arith))
 
 -- two bytes
 pub two : (b : List ℕ) (p x y : ℕ) → p + 2 ≤ length b → Wrote b p (x ∷ y ∷ []) (set (set b p x) (p + 1) y) (p + 2)

@@ -70,11 +70,11 @@ fn date_text(out: &mut [u8], at: usize, word: u16) -> usize
     if date.day == 0 {
         return put_bytes(out, at, b"----------");
     }
-    let mut next = two_digits(out, at, date.day);
-    next = put_bytes(out, next, b"-");
-    next = two_digits(out, next, date.month);
-    next = put_bytes(out, next, b"-");
-    decimal(out, next, date.year as usize)
+    let month = two_digits(out, at, date.day);
+    out[month] = b'-';
+    let year = two_digits(out, month + 1, date.month);
+    out[year] = b'-';
+    decimal(out, year + 1, date.year as usize)
 }
 
 // Nine characters with a dot after the sixth.
@@ -82,9 +82,9 @@ fn dotted(out: &mut [u8], at: usize, text: &[u8]) -> usize
     requires { ⌜ (length (now text) ≡ 9) × (at + 10 ≤ length (now out)) ⌝ }
     ensures { λ r. ⌜ WroteAtMost 10 (now (out .entry)) at (dotted (now (text .entry))) (now (out .exit)) r ⌝ }
 {
-    let mut next = put_bytes(out, at, &text[0..6]);
-    next = put_bytes(out, next, b".");
-    put_bytes(out, next, &text[6..9])
+    let dot = put_bytes(out, at, &text[0..6]);
+    out[dot] = b'.';
+    put_bytes(out, dot + 1, &text[6..9])
 }
 
 // The name that three words spell: six characters, a dot, and the extension.
@@ -92,7 +92,7 @@ fn name_text(out: &mut [u8], at: usize, a: u16, b: u16, c: u16) -> usize
     requires { ⌜ (a ≤ 63999) × (b ≤ 63999) × (c ≤ 63999) × (at + 10 ≤ length (now out)) ⌝ }
     ensures { λ r. ⌜ WroteAtMost 10 (now (out .entry)) at (nameBy a b c) (now (out .exit)) r ⌝ }
 {
-    let spelled = names::radix::text_of_words(a, b, c);
+    let spelled = names::text_of_words(a, b, c);
     let text = spelled.text;
     dotted(out, at, &text)
 }
@@ -103,9 +103,18 @@ fn letter(out: &mut [u8], at: usize, kind: Kind) -> usize
     ensures { λ r. ⌜ WroteAtMost 1 (now (out .entry)) at (letter kind) (now (out .exit)) r ⌝ }
 {
     match kind {
-        Kind::Tentative => put_bytes(out, at, b"T"),
-        Kind::Empty => put_bytes(out, at, b"E"),
-        Kind::Permanent => put_bytes(out, at, b"P"),
+        Kind::Tentative => {
+            out[at] = b'T';
+            at + 1
+        }
+        Kind::Empty => {
+            out[at] = b'E';
+            at + 1
+        }
+        Kind::Permanent => {
+            out[at] = b'P';
+            at + 1
+        }
         Kind::End => at,
         Kind::Unknown => at,
     }
@@ -129,12 +138,12 @@ fn row_start(out: &mut [u8], at: usize, kind: Kind, a: u16, b: u16, c: u16) -> u
     requires { ⌜ Spelled kind a b c × (at + 12 ≤ length (now out)) ⌝ }
     ensures { λ r. ⌜ WroteAtMost 12 (now (out .entry)) at (rowStart kind a b c) (now (out .exit)) r ⌝ }
 {
-    let mut next = letter(out, at, kind);
-    next = put_bytes(out, next, b" ");
+    let space = letter(out, at, kind);
+    out[space] = b' ';
     if is_empty(kind) {
-        return put_bytes(out, next, b"..........");
+        return put_bytes(out, space + 1, b"..........");
     }
-    name_text(out, next, a, b, c)
+    name_text(out, space + 1, a, b, c)
 }
 
 // The date word that a row shows: that of no date for an empty entry.
@@ -152,9 +161,10 @@ fn row_end(out: &mut [u8], at: usize, kind: Kind, date: u16) -> usize
     requires { ⌜ at + 12 ≤ length (now out) ⌝ }
     ensures { λ r. ⌜ WroteAtMost 12 (now (out .entry)) at (rowEnd kind date) (now (out .exit)) r ⌝ }
 {
-    let mut next = put_bytes(out, at, b" ");
-    next = date_text(out, next, row_date(kind, date));
-    put_bytes(out, next, b"\n")
+    out[at] = b' ';
+    let next = date_text(out, at + 1, row_date(kind, date));
+    out[next] = b'\n';
+    next + 1
 }
 
 // The row of an entry, by its kind, name words, first block, length and date word.
@@ -203,7 +213,8 @@ pub fn head_line(
     next = captioned(out, next, b" SEGMENTS ", highest);
     next = captioned(out, next, b" OF ", segments);
     next = captioned(out, next, b" EXTRA ", extra);
-    put_bytes(out, next, b"\n")
+    out[next] = b'\n';
+    next + 1
 }
 
 // The last line: the blocks of permanent, tentative and empty entries.
@@ -214,7 +225,8 @@ pub fn total_line(out: &mut [u8], at: usize, files: usize, opened: usize, free: 
     let mut next = captioned(out, at, b"FILES ", files);
     next = captioned(out, next, b" OPEN ", opened);
     next = captioned(out, next, b" FREE ", free);
-    put_bytes(out, next, b"\n")
+    out[next] = b'\n';
+    next + 1
 }
 
 // The one line of a refusal.
@@ -223,5 +235,6 @@ pub fn refused_line(out: &mut [u8], at: usize, n: usize) -> usize
     ensures { λ r. ⌜ WroteAtMost 14 (now (out .entry)) at (refusedLine n) (now (out .exit)) r ⌝ }
 {
     let next = captioned(out, at, b"REFUSED ", n);
-    put_bytes(out, next, b"\n")
+    out[next] = b'\n';
+    next + 1
 }

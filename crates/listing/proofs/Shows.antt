@@ -1,27 +1,27 @@
 -- The rows of a sound directory, as the listing shows them. A segment that rule 4 lets stand has fewer entries than slots, and a name
 -- that spells in each entry that is not empty; so there are at most 2,201 rows, and each can be shown. A walk with the cursor keeps
 -- that the text written, and that of the rows ahead, are together the text of all rows. Assumes nothing.
-use Prim.Native.Nat.{ℕ, zero, suc, _+_, _*_, _-_, _≤_, _<_}
+use Prim.Native.Nat.{ℕ, _+_, _*_, _-_, _≤_, _<_}
 use mathlib.Core.Path.{_≡_, refl, sym, ap, _∙_}
-use mathlib.Core.Bool.{Bool, true, false, _||_, true≢false}
+use mathlib.Core.Bool.{Bool, false, _||_, true≢false}
 use mathlib.Core.List.{List, [], _∷_, _++_, append-assoc, append-nil}
 use native.Mathlib.Omega.{arith}
-use native.Mathlib.Nat.{mul-le-mul-left, div-mul-le-self}
-use lib.ListN.{length, getD, drop, length-append}
+use lib.ListN.{length, getD, length-append}
 use lib.Dec.{ltb}
 use borrow.Author.Tests.{ltb-false}
 use Rattle.bools.proofs.Bools.{neither}
 use Rattle.meaning.specs.Kinds.{isEmpty}
-use Rattle.meaning.specs.Words.{segment, firstOf, highest, slotWords, slotCount, Entry, nameWord, name2Word, extensionWord, kind, blocks}
-use Rattle.meaning.specs.Words.{chunks, slots, entries, chain, Row, rowsIn, segmentRows, rowsOf, rows}
+use Rattle.meaning.specs.Words.{segment, firstOf, highest, slotWords, Entry, nameWord, name2Word, extensionWord, kind, blocks}
+use Rattle.meaning.specs.Words.{entries, chain, Row, rowsIn, segmentRows, rowsOf, rows}
 use Rattle.meaning.specs.Sound.{longName, fault}
 use Rattle.meaning.specs.Listing.{rowText, rowsText}
 use Rattle.walks.proofs.Lists.{chain-length}
 use Rattle.walks.specs.Scan.{longNamed}
-use Rattle.laws.specs.Order.{All}
-use Rattle.laws.proofs.Alls.{all-append}
-use Rattle.laws.proofs.Soundness.{slotsOf, Readable, sound}
-use Rattle.laws.proofs.Fine.{Okay, free, used, Fine, slots-fine}
+use Rattle.walks.specs.Lists.{All}
+use Rattle.walks.proofs.Alls.{all-append}
+use Rattle.walks.proofs.Slots.{length-slots, most-slots, slotsOf}
+use Rattle.rules.proofs.Soundness.{Readable, sound}
+use Rattle.rules.proofs.Fine.{Okay, free, used, Fine, slots-fine}
 use Rattle.cursor.specs.Cursor.{firstSlot, rowsAt, stepAt}
 use Rattle.cursor.specs.declared.Cursor.{Cursor}
 use Rattle.cursor.specs.declared.Seen.{Seen}
@@ -72,18 +72,6 @@ unfolding rowsIn
 rows-long w s k a b [] = refl
 rows-long w s k a b (e ∷ es) = let i = rows-long w s (k + 1) (a + w) (b + blocks e) es in omega arith
 
--- at most 72 slots, of which an entry never takes the last
-length-chunks : (n w : ℕ) (l : List ℕ) → length (chunks n w l) ≡ n
-unfolding chunks
-length-chunks zero w l = refl
-length-chunks (suc n) w l = ap suc (length-chunks n w (drop w l))
-
-few-slots : (w : ℕ) (g : List ℕ) → 7 ≤ w → length (slots w g) ≤ 72
-unfolding slots
-few-slots w g h =
-    let a : slotCount w * 7 ≤ slotCount w * w = mul-le-mul-left (slotCount w) h in
-    omega (arith, div-mul-le-self 507 w, length-chunks (slotCount w) w (drop 5 g))
-
 -- of segments that rule 4 lets stand, and so of the chain of a sound directory
 module _ (d : List ℕ) where
   named-of : (ss : List ℕ) → All (Readable d) ss → All RowNamed (rowsOf d ss)
@@ -101,7 +89,8 @@ module _ (d : List ℕ) where
       let i = few-of ss (h .1) in
       let f = slots-fine (slotsOf d s) false (h .0) .1 in
       let l = rows-long (slotWords d) s 1 (512 * (s - 1) + 5) (firstOf (segment d s)) (entries d s) in
-      let n = few-slots (slotWords d) (segment d s) (omega arith) in
+      let n = length-slots (slotWords d) (segment d s) in
+      let m = most-slots (slotWords d) (omega arith) in
       simp length-append (omega arith)
 
   few-rows : (v : ℕ) → fault v d ≡ 0 → length (rows d) ≤ 2201

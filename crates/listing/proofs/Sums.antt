@@ -13,9 +13,9 @@ use Rattle.meaning.specs.Kinds.{isTentative, isEmpty, isPermanent}
 use Rattle.meaning.specs.Words.{Entry, kind, blocks, total, allEntries}
 use Rattle.meaning.specs.Sound.{fault}
 use Rattle.meaning.specs.Listing.{blocksOf}
-use Rattle.laws.proofs.Rule5.{rule1-holds}
-use Rattle.laws.proofs.Soundness.{sound, data-blocks}
-use Rattle.laws.proofs.Rows.{entry-of, entries-rows}
+use Rattle.rules.proofs.Rule5.{rule1-holds}
+use Rattle.rules.proofs.Soundness.{sound, data-blocks}
+use Rattle.rules.proofs.Rows.{entry-of, entries-rows}
 use Rattle.cursor.specs.Cursor.{firstSlot, rowsAt, stepAt}
 use Rattle.cursor.specs.declared.Cursor.{Cursor}
 use Rattle.cursor.specs.declared.Seen.{Seen}

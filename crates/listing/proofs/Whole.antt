@@ -13,7 +13,7 @@ use Rattle.meaning.specs.Words.{segments, highest, extraBytesOf, rows, allEntri
 use Rattle.meaning.specs.Sound.{fault}
 use Rattle.meaning.specs.Listing.{volumeIn, directoryIn, goodHead, rowsText, refusedLine, soundText, textBy, listing}
 use Rattle.walks.proofs.Heads.{sized, headed}
-use Rattle.chain.proofs.Faults.{first-three}
+use Rattle.walks.proofs.Unbroken.{unbroken}
 use Rattle.lines.specs.Wrote.{Wrote, WroteAtMost}
 use Rattle.lines.specs.Pieces.{headBy, totalBy}
 use Rattle.listing.specs.Rows.{TotalsOf}
@@ -32,9 +32,9 @@ pub record HeadFits (v : ℕ) (d : List ℕ) : Type 0 where
 
 pub head-fits : (v : ℕ) (d : List ℕ) → fault v d ≡ 0 → HeadFits v d
 head-fits v d h =
-    let f = first-three v d h in
-    let s = sized v d (f .0) in
-    let t = headed d (f .1) in
+    let f = unbroken v d h in
+    let s = sized v d (f .size) in
+    let t = headed d (f .header) in
     record {
       words = omega arith;
       volume = s .wide;

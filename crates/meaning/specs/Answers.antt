@@ -21,15 +21,15 @@ pub record Meets (r : Answer) (after : List ℕ) (o : Outcome) : Type 0 where
   pub answer : r ≡ o .answer
   pub words : after ≡ o .words
 
--- A refusal answers its number with first block, length and date all 0
+-- a refusal: its number, and zeros
 abbrev pub refusal : ℕ → Answer
 refusal n = record { number = n; first = 0; length = 0; date = 0 }
 
--- Success is 0: first block, length and date of the entry concerned
+-- a success: number 0, and what is known of the entry that the request is about
 abbrev pub granted : ℕ → ℕ → ℕ → Answer
 granted first length date = record { number = 0; first = first; length = length; date = date }
 
--- after a refusal the directory stays word for word
+-- a refused request changes no word
 unfoldable pub refuse : ℕ → List ℕ → Outcome
 refuse n d = record { answer = refusal n; words = d }
 
@@ -37,7 +37,7 @@ refuse n d = record { answer = refusal n; words = d }
 unfoldable pub success : ℕ → ℕ → ℕ → List ℕ → Outcome
 success first length date after = record { answer = granted first length date; words = after }
 
--- Refusals are tested in number order, after 1 to 6. Each line of a request is one test: the refusal, or what comes next
+-- A request is written as its tests, one to a line, smallest number first: either the refusal, or what comes next
 abbrev pub passed : ℕ → List ℕ → (Unit {0} → Outcome) → Outcome
 passed zero d next = next tt
 passed (suc n) d next = refuse (suc n) d

@@ -12,7 +12,7 @@ use Rattle.meaning.specs.Answers.{Outcome}
 use Rattle.meaning.specs.Requests.{lookup, delete, abandon, rename, close}
 use Rattle.meaning.specs.Enter.{enter}
 
--- a request record: every request but a fresh start
+-- what each kind of request record asks for
 abbrev pub serveBy : Op → ℕ → List ℕ → Request → Outcome
 serveBy Lookup v d q = lookup v d (q .name)
 serveBy Enter v d q = enter v d (q .name) (q .size) (q .job) (q .channel) (q .date)
@@ -24,7 +24,7 @@ serveBy Rename v d q = rename v d (q .name) (q .«new_name»)
 unfoldable pub serve : ℕ → List ℕ → Request → Outcome
 serve v d q = serveBy (q .op) v d q
 
--- It runs in slice order, and a refusal does not stop it: each request meets the words that the one before it left
+-- the records one after the other, refused or not: each request meets the words that the one before it left
 unfoldable pub wordsAfter : ℕ → List ℕ → List Request → List ℕ
 wordsAfter v d [] = d
 wordsAfter v d (q ∷ qs) = wordsAfter v (serve v d q .words) qs
@@ -43,6 +43,6 @@ abbrev pub batchBy : Bool → ℕ → List ℕ → List Request → List Answer 
 batchBy true v d qs room = record { number = 0; words = wordsAfter v d qs; answers = answersTo v d qs }
 batchBy false v d qs room = record { number = 18; words = d; answers = room }
 
--- The batch itself answers 0, or 18 with the directory and both slices unchanged: request and answer slices differ in length
+-- 18, and nothing is touched, where there are not as many places for answers as requests; else the batch is run
 unfoldable pub batch : ℕ → List ℕ → List Request → List Answer → Batched
 batch v d qs room = batchBy (eqb (length qs) (length room)) v d qs room

@@ -1,4 +1,4 @@
--- Enter (document 01, "Requests"): tidy, choose, split if needed, insert.
+-- Enter (document 01, "Requests"), by the five numbered steps of the document.
 use Prim.Native.Nat.{ℕ, zero, suc, _+_, _*_, _-_, _/_, max}
 use mathlib.Core.Bool.{Bool, true, false, cond, _&&_, _||_, not}
 use mathlib.Core.List.{List, [], _∷_, _++_, map}
@@ -34,7 +34,7 @@ goodSize (exact n) = true
 abbrev pub isArea : Entry → Bool
 isArea e = isEmpty (kind e)
 
--- a run of neighbouring empty entries becomes its first with the summed length: an empty entry takes the length of the run after it
+-- from the last entry to the first, an area takes over the length of an area directly behind it, which goes
 abbrev pub joinTo : Entry → List Entry → List Entry
 joinTo e [] = e ∷ []
 joinTo e (f ∷ fs) = cond (isArea e && isArea f) (set e lengthWord (blocks e + blocks f) ∷ fs) (e ∷ f ∷ fs)
@@ -43,7 +43,7 @@ unfoldable pub joined : List Entry → List Entry
 joined [] = []
 joined (e ∷ es) = joinTo e (joined es)
 
--- a zero sum is dropped unless a tentative entry stands before it: p says so of the first entry
+-- areas of length 0 go, but for one that a tentative entry needs behind it: p says whether such a one precedes the first entry
 unfoldable pub dropZero : Bool → List Entry → List Entry
 dropZero p [] = []
 dropZero p (e ∷ es) =
@@ -74,13 +74,13 @@ hasZero p (e ∷ es) = let r = hasZero (isTentative (kind e)) es in (isArea e &&
 unfoldable pub untidy : List Entry → Bool
 untidy es = hasRun es || hasZero false es
 
--- In a segment whose entries an enter has changed, all words after the marker's status are 0; other segments stay as they were
+-- only a segment that the tidy changes is written anew, and then with zeros behind its marker
 unfoldable pub tidiedAt : List ℕ → ℕ → List ℕ
 tidiedAt d s =
     let es = entries d s in
     cond (untidy es) (withSegment d s (render (headerOf d s) (tidy es))) d
 
--- in each open segment
+-- one segment in use after the other
 unfoldable pub tidied : List ℕ → List ℕ → List ℕ
 tidied d [] = d
 tidied d (s ∷ ss) = tidied (tidiedAt d s) ss
@@ -95,16 +95,16 @@ pub record Area : Type 0 where
   pub cost : ℕ
   pub eligible : Bool
 
--- An area costs 2 slots if a tentative entry stands directly before it, else 1
+-- The slots that an area costs: one for the new entry, and one more for an area of length 0 where the entry before needs its own
 unfoldable pub costAfter : Bool → ℕ
 costAfter p = cond p 2 1
 
--- its segment's entries plus cost are at most C, or H < N
+-- there are slots for it in its segment, or a segment that is not yet in use to split into
 unfoldable pub hasRoom : List ℕ → List Entry → ℕ → Bool
 hasRoom d es cost = leb (length es + cost) (capacity d) || ltb (highest d) (segments d)
 
--- It is eligible if its length is at least 1 and it has room. The areas among entries of segment s, after k others, from block b on,
--- with p a tentative entry directly before
+-- The areas among entries of segment s, after k others, from block b on; p says whether a tentative entry precedes them. An area may be
+-- taken where it has a block and its slots can be had
 unfoldable pub areasIn : (ℕ → Bool) → ℕ → ℕ → ℕ → Bool → List Entry → List Area
 areasIn room s k b p [] = []
 areasIn room s k b p (e ∷ es) =
@@ -142,35 +142,35 @@ unfoldable pub without : ℕ → List ℕ → List ℕ
 without n [] = []
 without n (m ∷ ms) = let r = without n ms in cond (eqb m n) ms (m ∷ r)
 
--- the second longest (another entry; 0 if none)
+-- the longest once one of the longest is taken away, so that two areas of one length count as two
 unfoldable pub secondOf : List ℕ → ℕ
 secondOf ns = longestOf (without (longestOf ns) ns)
 
--- Size n > 0 is n. Size −1 means the longest eligible length. Size 0 means the greater of the longest eligible length halved, rounded
--- up, and the second longest eligible length. Of the eligible lengths:
+-- How many blocks a size comes to, from the lengths of the areas that may be taken: the longest whole; half of it, but no less than the
+-- second longest, where half a block counts as one; or the number itself
 unfoldable pub wanted : Size → List ℕ → ℕ
 wanted longest ns = longestOf ns
 wanted default ns = max ((longestOf ns + 1) / 2) (secondOf ns)
 wanted wrong ns = 0
 wanted (exact n) ns = n
 
--- length at least n (1 for sizes 0 and −1)
+-- how long an area must be for refusals 11 and 12: a size that names no number needs one block
 unfoldable pub atLeast : Size → ℕ
 atLeast longest = 1
 atLeast default = 1
 atLeast wrong = 1
 atLeast (exact n) = n
 
--- some area has length at least n
+-- some area has so many blocks
 unfoldable pub longEnough : ℕ → List Area → Bool
 longEnough n as′ = any (λ r. leb n (r .size)) as′
 
--- first area in chain order of length at least n
+-- the first area that has so many blocks
 unfoldable pub firstFit : ℕ → List Area → Option Area
 firstFit n [] = none
 firstFit n (a ∷ as′) = let r = firstFit n as′ in cond (leb n (a .size)) (some a) r
 
--- 4. Split: with m entries keep floor(m/2), one more if the last kept is tentative
+-- 4. Split. Half of the entries stay, rounded down; a tentative one at the end of these keeps its area with it
 unfoldable pub endsTentative : List Entry → Bool
 endsTentative [] = false
 endsTentative (e ∷ []) = isTentative (kind e)
@@ -179,8 +179,8 @@ endsTentative (e ∷ f ∷ es) = endsTentative (f ∷ es)
 unfoldable pub kept : List Entry → ℕ
 kept es = let h = length es / 2 in cond (endsTentative (take h es)) (h + 1) h
 
--- 5. Insert before the area: at cost 2, first an empty entry of length 0, other words 0; then the tentative entry. The area keeps its
--- words and loses n. The area stands after k entries of es
+-- 5. Insert. The new entry goes directly before its area, which stands after k entries of es and gives up n blocks; where the entry before
+-- it is tentative, an area of length 0 comes between
 unfoldable pub inserted : ℕ → Entry → ℕ → ℕ → ℕ → List Entry → List Entry
 inserted w new n cost k es =
     take k es
@@ -193,8 +193,8 @@ unsplit t new n a =
     withSegment t (a .seg)
     (render (headerOf t (a .seg)) (inserted (slotWords t) new n (a .cost) (a .before) (entries t (a .seg))))
 
--- The rest go to segment H+1, header N, old link, 0, extra bytes, its first block. The old segment links to it; H grows by 1. The area
--- is among those kept, or among the rest
+-- The entries that don't stay move to the first segment not in use, which comes behind the old one in the chain and begins where that now
+-- ends. The new entry goes to whichever of the two has its area
 unfoldable pub split : List ℕ → Entry → ℕ → Area → List ℕ
 split t new n a =
     let s = a .seg in
@@ -211,7 +211,7 @@ split t new n a =
     let rest = render newHeader (cond (ltb k h) high (add (k - h) high)) in
     set (withSegment (withSegment t s old) next rest) 2 next
 
--- split only if the chosen segment lacks the slots
+-- a split comes only where the area's segment has not the slots
 unfoldable pub entered : List ℕ → Entry → ℕ → Area → List ℕ
 entered t new n a =
     let one = unsplit t new n a in
@@ -223,7 +223,7 @@ abbrev pub placed : List ℕ → List ℕ → ℕ → ℕ → Entry → Option A
 placed d t n date new none = refuse 12 d
 placed d t n date new (some a) = success (a .first) n date (entered t new n a)
 
--- 11: no empty entry of length at least n (1 for sizes 0 and −1). 12: such entries exist, none of them eligible. A refusal leaves d
+-- 11 looks at all areas, 12 at those that may be taken. Both look at the tidied words; a refusal leaves d as it was
 unfoldable pub enter : ℕ → List ℕ → Name → ℤ → ℕ → ℕ → ℕ → Outcome
 enter v d name asked job channel date =
     let size = sizeOf asked in

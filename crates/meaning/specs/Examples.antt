@@ -91,7 +91,7 @@ gives a first length date = record { ask = a; number = 0; first = first; length 
 abbrev pub gets : Ask → ℕ → Step
 gets a number = record { ask = a; number = number; first = 0; length = 0; date = 0 }
 
--- examples 3, 4 and 5: fresh V=494, N=4, E=0; then enter DAY.CHG, 30, job 0 channel 3, date 3556; then close at 12
+-- examples 3, 4 and 5: a fresh start of four segments; DAY.CHG entered with 30 blocks; closed at 12
 abbrev pub fresh3 : Step
 fresh3 = gives (start 0) 14 480 0
 

@@ -5,7 +5,7 @@ use lib.Dec.{eqb}
 use Rattle.meaning.specs.declared.Kind.{Kind}
 use Rattle.meaning.specs.declared.Kind.the-variants.{Tentative, Empty, Permanent, End, Unknown}
 
--- The status is exactly 256 tentative, 512 empty, 1024 permanent, 2048 end
+-- the number that the status word has, whole, for each kind
 abbrev pub tentativeStatus : ℕ
 tentativeStatus = 256
 

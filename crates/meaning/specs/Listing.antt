@@ -24,7 +24,7 @@ wordsIn [] = []
 wordsIn (low ∷ []) = []
 wordsIn (low ∷ high ∷ bs) = (low + 256 * high) ∷ wordsIn bs
 
--- Its file begins with the mark `RVH`, a 16-bit version 1 and V, then the directory bytes
+-- a head file: three bytes of mark, the version as a word, V as a word, and then the words of the directory
 unfoldable pub mark : List ℕ
 mark = bytes "RVH"
 
@@ -43,7 +43,7 @@ sameBytes [] (y ∷ ys) = false
 sameBytes (x ∷ xs) [] = false
 sameBytes (x ∷ xs) (y ∷ ys) = let r = sameBytes xs ys in eqb x y && r
 
--- Refusal 17: under 7 bytes, above the limit of 31,751, wrong mark or version, or an odd count of directory bytes
+-- what 17 asks of a head file: its head is whole, its directory no longer than 31 segments, mark and version are right, no word is half
 unfoldable pub goodHead : List ℕ → Bool
 goodHead file =
     leb headBytes (length file)
@@ -92,7 +92,7 @@ letter Permanent = bytes "P"
 letter End = []
 letter Unknown = []
 
--- the name of an empty one is ten dots, and its date ten hyphens
+-- an empty entry shows neither name nor date
 unfoldable pub rowText : Row → List ℕ
 rowText r =
     let e = r .entry in
@@ -114,7 +114,7 @@ unfoldable pub blocksOf : (Kind → Bool) → List Entry → ℕ
 blocksOf is [] = 0
 blocksOf is (e ∷ es) = cond (is (kind e)) (blocks e) 0 + blocksOf is es
 
--- segments are H of N, extra is in bytes
+-- the first line: the volume, the segments in use, and how many extra bytes an entry has
 unfoldable pub headLine : ℕ → List ℕ → List ℕ
 headLine v d =
     bytes "VOLUME "
@@ -137,11 +137,11 @@ totalLine d =
     ++ decimal (blocksOf isEmpty (allEntries d))
     ++ bytes "\n"
 
--- A refusal prints one line, as `REFUSED 17`
+-- all that a refused file prints
 unfoldable pub refusedLine : ℕ → List ℕ
 refusedLine n = bytes "REFUSED " ++ decimal n ++ bytes "\n"
 
--- Rows are all entries in chain order. A line feed ends each line
+-- the first line, a line for each row, and the totals
 unfoldable pub soundText : ℕ → List ℕ → List ℕ
 soundText v d = headLine v d ++ rowsText (rows d) ++ totalLine d
 

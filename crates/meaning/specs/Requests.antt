@@ -30,7 +30,7 @@ lookup v d name =
     onRow 13 (fileOf d name) d λ r.
     successWith r d
 
--- Delete and abandon change the status word to 512 and no other word
+-- to empty an entry is one write: all its words but the status stay
 unfoldable pub emptying : Row → List Write
 emptying r = put (r .at) statusWord emptyStatus ∷ []
 
@@ -41,7 +41,7 @@ delete v d name =
     onRow 13 (fileOf d name) d λ r.
     successWith r (write d (emptying r))
 
--- job 0 or 2, and channel at most 15
+-- a job is background or foreground; a channel goes up to a limit
 unfoldable pub channelLimit : ℕ
 channelLimit = 15
 
@@ -59,7 +59,7 @@ abandon v d job channel =
     onRow 15 (openOn d (wordOf job channel)) d λ r.
     successWith r (write d (emptying r))
 
--- Rename changes the three name words
+-- a new name is three writes
 unfoldable pub renaming : Row → Name → List Write
 renaming r new =
     put (r .at) nameWord (new .first)
@@ -67,7 +67,7 @@ renaming r new =
     ∷ put (r .at) extensionWord (new .extension)
     ∷ []
 
--- 14: the new name is a permanent file, itself included
+-- the file itself has its own name, so that a rename to it is refused by 14 too
 unfoldable pub rename : ℕ → List ℕ → Name → Name → Outcome
 rename v d old new =
     ifSound v d λ _.
@@ -76,12 +76,12 @@ rename v d old new =
     unless 14 (isNone (fileOf d new)) d λ _.
     successWith r (write d (renaming r new))
 
--- A permanent entry of the same name becomes empty (status only)
+-- a finished file of the same name gives way: its entry is emptied
 unfoldable pub replacing : Option Row → List Write
 replacing none = []
 replacing (some old) = emptying old
 
--- Close sets status 1024, the final length and channel word 0. The next entry grows by the difference
+-- the entry becomes permanent with its final length, and the blocks that it gives back go to the area behind it
 unfoldable pub closing : List ℕ → Row → ℕ → List Write
 closing d r n =
     let next = r .at + slotWords d in
@@ -96,7 +96,7 @@ unfoldable pub finalLength : ℤ → Option ℕ
 finalLength (pos n) = some n
 finalLength (negsuc n) = none
 
--- 16: final length below 0 or above the tentative length
+-- 16: the final length is no number of blocks, or more than was reserved
 abbrev pub closed : List ℕ → Row → Option ℕ → Outcome
 closed d r none = refuse 16 d
 closed d r (some n) =
@@ -128,15 +128,14 @@ flat (e ∷ es) t = e ++ flat es t
 unfoldable pub render : List ℕ → List Entry → List ℕ
 render header es = take 512 (header ++ flat es (endStatus ∷ replicate 512 0))
 
--- Fresh start (N from the slice, V, E): all words 0 but segment 1's header (N, 0, 1, 2E, 6+2N), one empty entry of length V−6−2N,
--- and a marker
+-- a directory with all data blocks free: segment 1 alone is in use, with one area, and the words of all others are 0
 unfoldable pub freshWords : ℕ → List ℕ → ℕ → List ℕ
 freshWords v d extra =
     render (segments d ∷ 0 ∷ 1 ∷ 2 * extra ∷ firstData d ∷ [])
     (emptyEntry (7 + extra) (v - firstData d) ∷ [])
     ++ replicate (512 * (segments d - 1)) 0
 
--- It tests only 1, then 2 for E above 16; success answers the empty entry
+-- what stood in the words before is not looked at, so that only the sizes can be refused; the answer is the area
 unfoldable pub fresh : ℕ → List ℕ → ℕ → Outcome
 fresh v d extra =
     unless 1 (not (bad1 v d)) d λ _.

@@ -17,7 +17,7 @@ module _ {A : Type 0} where
   any p [] = false
   any p (x ∷ xs) = let r = any p xs in p x || r
 
--- 1: slice length or V breaks the rule above: N is 1 to 31, the slice has exactly 512·N words, V is 6+2N to 65,535
+-- 1: the words are not 1 to 31 whole segments, or V has no room for these, or is no 16-bit number
 unfoldable pub bad1 : ℕ → List ℕ → Bool
 bad1 v d =
     not
@@ -27,7 +27,7 @@ bad1 v d =
     && leb (firstData d) v
     && leb v 65535)
 
--- 2: a segment 1 word is wrong: total is not N, H not 1..N, extra bytes odd or above 32
+-- 2: segment 1's header contradicts the slice: another N, no segment or more than N in use, half an extra word or more than 16
 unfoldable pub bad2 : List ℕ → Bool
 bad2 d =
     not
@@ -47,19 +47,19 @@ unfoldable pub eachOnce : ℕ → List ℕ → Bool
 eachOnce zero xs = true
 eachOnce (suc n) xs = let r = eachOnce n xs in eqb (times (suc n) xs) 1 && r
 
--- a segment differs from segment 1 in total or extra bytes
+-- a segment's header has another N, or other extra bytes, than segment 1's
 unfoldable pub differs : List ℕ → ℕ → Bool
 differs d s = not (eqb (totalOf (segment d s)) (totalOf d) && eqb (extraBytesOf (segment d s)) (extraBytesOf d))
 
--- 3: links from segment 1 do not visit each of 1..H once and then give 0, or a visited segment differs
+-- 3: following H links from segment 1 misses a segment in use or comes to one twice, or does not end there; or a header differs
 unfoldable pub bad3 : List ℕ → Bool
 bad3 d = not (eachOnce (highest d) (chain d) && eqb (reached (highest d) d 1) 0) || any (differs d) (chain d)
 
--- 4, of one segment's slots: no marker within S slots
+-- 4, of one segment's slots: none is the marker
 unfoldable pub unmarked : List Entry → Bool
 unmarked es = not (any (λ e. isEnd (kind e)) es)
 
--- a name word of a permanent or tentative entry above 63,999
+-- a file's name, open or finished, has a word that spells nothing
 unfoldable pub longName : Name → Bool
 longName n = ltb 63999 (n .first) || ltb 63999 (n .second) || ltb 63999 (n .extension)
 
@@ -72,7 +72,7 @@ unfoldable pub beginsEmpty : List Entry → Bool
 beginsEmpty [] = false
 beginsEmpty (f ∷ fs) = isEmpty (kind f)
 
--- a tentative entry whose next slot is not an empty entry (the marker is none)
+-- some tentative entry has no area in the slot behind it
 unfoldable pub alone : List Entry → Bool
 alone [] = false
 alone (e ∷ es) = let r = alone es in (isTentative (kind e) && not (beginsEmpty es)) || r
@@ -81,20 +81,20 @@ unfoldable pub badSlots : List Entry → Bool
 badSlots es =
     any (λ e. isUnknown (kind e)) (upto es) || unmarked es || any badName (upto es) || alone (upto es)
 
--- 4: an unknown status before the marker, no marker, a bad name word, or a tentative entry alone, in a segment of the chain
+-- 4: in a segment of the chain an entry has no known kind, the marker is missing, a name spells nothing, or a tentative entry is alone
 unfoldable pub bad4 : List ℕ → Bool
 bad4 d = any (λ s. badSlots (slots (slotWords d) (segment d s))) (chain d)
 
--- the segments fill the blocks from b to V: each begins where the one before it ended, and the end is V
+-- the segments fill the blocks from b up to V: each goes on at the block where the last one stopped
 unfoldable pub filled : ℕ → List ℕ → ℕ → List ℕ → Bool
 filled v d b [] = eqb b v
 filled v d b (s ∷ ss) = let r = filled v d (b + total (entries d s)) ss in eqb (firstOf (segment d s)) b && r
 
--- 5: segment 1 does not begin at 6+2N, a later segment in the chain does not begin where the one before it ended, or the end is not V
+-- 5: the chain's entries do not fill the data blocks, from the first one up to V, without gap or overlap between segments
 unfoldable pub bad5 : ℕ → List ℕ → Bool
 bad5 v d = not (filled v d (firstData d) (chain d))
 
--- two permanent entries with equal names, or two tentative entries with equal channel words: some entry clashes with a later one
+-- some entry has the key of a later one: two finished files share a name, or two open files a channel word
 unfoldable pub clashes : List Entry → Bool
 clashes [] = false
 clashes (e ∷ es) = let r = clashes es in any (clash e) es || r
@@ -108,7 +108,7 @@ abbrev pub rule : ℕ → Bool → (Unit {0} → ℕ) → ℕ
 rule n true next = n
 rule n false next = next tt
 
--- With several faults the smallest number is given; each rule presumes those above it. A sound directory has number 0
+-- the first rule that is broken gives the number, so that each is tried only where those before it hold; 0 for a sound directory
 unfoldable pub fault : ℕ → List ℕ → ℕ
 fault v d =
     rule 1 (bad1 v d) λ _.

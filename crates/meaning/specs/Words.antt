@@ -13,11 +13,11 @@ use Rattle.meaning.specs.declared.Kind.{Kind}
 use Rattle.meaning.specs.declared.Name.{Name}
 use Rattle.meaning.specs.Kinds.{kindOf, isEnd}
 
--- N directory segments: the slice has exactly 512·N words
+-- N: how many segments of 512 words the directory has
 abbrev pub segments : List ℕ → ℕ
 segments d = length d / 512
 
--- data blocks run from 6+2N
+-- the first block behind the directory, which begins at block 6 and takes two blocks a segment
 abbrev pub firstData : List ℕ → ℕ
 firstData d = 6 + 2 * segments d
 
@@ -25,8 +25,8 @@ firstData d = 6 + 2 * segments d
 unfoldable pub segment : List ℕ → ℕ → List ℕ
 segment d k = take 512 (drop (512 * (k - 1)) d)
 
--- Header, five words: total segments; number of the next segment, 0 for none; highest segment in use; extra bytes per entry;
--- first data block of this segment
+-- The five words of a segment's header: 0 is N; 1 the link, which is the number of the segment that follows, or 0; 2 is H; 3 the bytes
+-- that each entry has beyond its seven words; 4 the block where the segment's first entry begins
 abbrev pub totalOf : List ℕ → ℕ
 totalOf g = getD g 0 0
 
@@ -39,23 +39,23 @@ extraBytesOf g = getD g 3 0
 abbrev pub firstOf : List ℕ → ℕ
 firstOf g = getD g 4 0
 
--- H is read in segment 1 only
+-- H, how many segments are in use: segment 1 alone says it
 abbrev pub highest : List ℕ → ℕ
 highest d = getD d 2 0
 
--- extra bytes are even: E extra words
+-- E, the extra bytes as words
 abbrev pub extraWords : List ℕ → ℕ
 extraWords d = extraBytesOf d / 2
 
--- an entry slot has 7+E words
+-- how many words a slot has
 abbrev pub slotWords : List ℕ → ℕ
 slotWords d = 7 + extraWords d
 
--- S = floor(507/(7+E)) slots
+-- S: as many whole slots of w words as the 507 words behind the header give
 abbrev pub slotCount : ℕ → ℕ
 slotCount w = 507 / w
 
--- The end marker takes one slot, so a segment holds at most C = S−1 entries
+-- C: all slots but one hold entries, since the marker needs its own
 unfoldable pub capacity : List ℕ → ℕ
 capacity d = slotCount (slotWords d) - 1
 
@@ -63,7 +63,7 @@ capacity d = slotCount (slotWords d) - 1
 abbrev pub Entry : Type 0
 Entry = List ℕ
 
--- Entry words: status; name (two words); extension; length in blocks; channel word (job·256 + channel); date; extras
+-- where each word of an entry stands; the extra words follow
 abbrev pub statusWord : ℕ
 statusWord = 0
 
@@ -122,7 +122,7 @@ upto (e ∷ es) = let r = upto es in cond (isEnd (kind e)) [] (e ∷ r)
 unfoldable pub entries : List ℕ → ℕ → List Entry
 entries d k = upto (slots (slotWords d) (segment d k))
 
--- Sums are exact whole numbers and never reduced by 65,536
+-- the lengths of some entries added up, as a whole number of any size: it never wraps as a word would
 unfoldable pub total : List Entry → ℕ
 total [] = 0
 total (e ∷ es) = blocks e + total es
@@ -149,7 +149,7 @@ pub record Row : Type 0 where
   pub first : ℕ
   pub entry : Entry
 
--- Entries need no stored start: a start is the segment's first block plus the lengths before it.
+-- No entry holds its first block: the segment's header has the first one's, and each further entry begins where the one before it ends.
 -- The rows of entries of w words in segment s, the first of them in slot k, at word a, with first block b
 unfoldable pub rowsIn : ℕ → ℕ → ℕ → ℕ → ℕ → List Entry → List Row
 rowsIn w s k a b [] = []

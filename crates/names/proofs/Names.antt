@@ -3,7 +3,7 @@
 use Prim.Native.Nat.{ℕ, zero, suc, _+_, _*_, _-_, _/_, _%_, _≤_, _<_}
 use native.Mathlib.Omega.{arith}
 use mathlib.Core.Path.{_≡_, refl, sym, ap, _∙_}
-use mathlib.Core.Bool.{Bool, true, false, cond, _&&_, _||_, false≢true}
+use mathlib.Core.Bool.{Bool, true, false, cond, _&&_, _||_}
 use mathlib.Core.Logic.{⊎-elim}
 use mathlib.Core.List.{List, [], _∷_}
 use borrow.Author.Tests.{leb-true, ltb-true, eqb-true, le-leb}
@@ -79,24 +79,31 @@ packed-spelled w h =
     rw (code-shown (w / 1600) (omega arith), code-shown (w / 40 % 40) (omega arith), code-shown (w % 40) (omega arith)) (omega arith)
 
 -- each byte of a legal text is a space, a letter or a digit
-blank-in : (l : List ℕ) → blank l ≡ true → (k : ℕ) → k < length l → inText (getD l k 0) ≡ true
+abbrev AllIn : List ℕ → Type 0
+AllIn l = (k : ℕ) → k < length l → inText (getD l k 0) ≡ true
+
+in-each : (b : ℕ) (bs : List ℕ) → inText b ≡ true → AllIn bs → AllIn (b ∷ bs)
+in-each b bs h f zero l = h
+in-each b bs h f (suc k) l = f k (le-of-suc-le-suc l)
+
+blank-in : (l : List ℕ) → blank l ≡ true → AllIn l
 unfolding blank inText
-blank-in [] h k l = absurd (not-suc-le-zero l)
-blank-in (b ∷ bs) h zero l = rw (both (eqb b space) (blank bs) h .0)
-blank-in (b ∷ bs) h (suc k) l = blank-in bs (both (eqb b space) (blank bs) h .1) k (le-of-suc-le-suc l)
+blank-in [] h = λ k l. absurd (not-suc-le-zero l)
+blank-in (b ∷ bs) h =
+    let p = both (eqb b space) (blank bs) h in
+    in-each b bs (rw (p .0)) (blank-in bs (p .1))
 
-padded-in : (l : List ℕ) → padded l ≡ true → (k : ℕ) → k < length l → inText (getD l k 0) ≡ true
+padded-in : (l : List ℕ) → padded l ≡ true → AllIn l
 unfolding padded inText
-padded-in [] h k l = absurd (not-suc-le-zero l)
-padded-in (b ∷ bs) h k l = split (eqb b space) refl h (padded-in bs) k l
+padded-in [] h = λ k l. absurd (not-suc-le-zero l)
+padded-in (b ∷ bs) h = split (eqb b space) refl h (padded-in bs)
   where
-    rest : (eqb b space ≡ true → blank bs ≡ true) → ((i : ℕ) → i < length bs → inText (getD bs i 0) ≡ true) → inText b ≡ true → (i : ℕ) → i < suc (length bs) → inText (getD (b ∷ bs) i 0) ≡ true
-    rest e f g zero m = g
-    rest e f g (suc i) m = f i (le-of-suc-le-suc m)
-
-    split : (t : Bool) → eqb b space ≡ t → cond t (blank bs) (inName b && padded bs) ≡ true → (padded bs ≡ true → (i : ℕ) → i < length bs → inText (getD bs i 0) ≡ true) → (i : ℕ) → i < suc (length bs) → inText (getD (b ∷ bs) i 0) ≡ true
-    split true e g f = rest (λ _. g) (blank-in bs g) (rw e)
-    split false e g f = rest (λ w. absurd (false≢true (sym e ∙ w))) (f (both (inName b) (padded bs) g .1)) (rw (e, both (inName b) (padded bs) g .0))
+    split : (t : Bool) → eqb b space ≡ t → cond t (blank bs) (inName b && padded bs) ≡ true → (padded bs ≡ true → AllIn bs)
+        → AllIn (b ∷ bs)
+    split true e g f = in-each b bs (rw e) (blank-in bs g)
+    split false e g f =
+        let p = both (inName b) (padded bs) g in
+        in-each b bs (rw (e, p .0)) (f (p .1))
 
 -- a legal text, taken apart
 pub record Legal (t : List ℕ) : Type 0 where
@@ -222,13 +229,17 @@ spelled-name a b c n e h =
     ∙ spelled-or a b c (spells a && spells b && spells c) refl .1 (ap (λ (x : NameText). x .number) (sym e) ∙ h)
 
 -- a list of nine, by its elements
+abbrev elements : ℕ → ℕ → List ℕ → List ℕ
+elements zero k t = []
+elements (suc n) k t = getD t k 0 ∷ elements n (suc k) t
+
+elements-are : (n k : ℕ) (t : List ℕ) → length t ≡ n + k → elements n k t ≡ drop k t
+elements-are zero k t h = sym (drop-of-length-le t {i = k} (omega arith))
+elements-are (suc n) k t h = rw (elements-are n (suc k) t (omega arith), drop-cons t k 0 (omega arith))
+
 nine-is : (t : List ℕ) → length t ≡ 9
     → getD t 0 0 ∷ getD t 1 0 ∷ getD t 2 0 ∷ getD t 3 0 ∷ getD t 4 0 ∷ getD t 5 0 ∷ getD t 6 0 ∷ getD t 7 0 ∷ getD t 8 0 ∷ [] ≡ t
-nine-is t h =
-    let one : (k : ℕ) → k < 9 → drop k t ≡ getD t k 0 ∷ drop (suc k) t = λ k l. drop-cons t k 0 (rw h l) in
-    sym
-    (one 0 (omega arith)
-    ∙ rw (one 1 (omega arith), one 2 (omega arith), one 3 (omega arith), one 4 (omega arith), one 5 (omega arith), one 6 (omega arith), one 7 (omega arith), one 8 (omega arith), drop-of-length-le t {i = 9} (omega arith)))
+nine-is t h = elements-are 9 0 t h
 
 -- Text to words and back is the same text on every legal name
 pub text-words-text : (t : List ℕ) → legalText t ≡ true

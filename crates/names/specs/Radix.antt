@@ -19,7 +19,7 @@ isLetter b = leb (code "A") b && leb b (code "Z")
 abbrev pub isDigit : ℕ → Bool
 isDigit b = leb (code "0") b && leb b (code "9")
 
--- Radix-50: the byte shown for each code: space 0, A to Z 1 to 26, $ 27, . 28, 29 unused and shown as ?, digits 30 to 39
+-- Radix-50: the byte at place k of this list is what code k shows; code 29 has no character of its own and shows the question mark
 unfoldable pub alphabet : List ℕ
 alphabet = bytes " ABCDEFGHIJKLMNOPQRSTUVWXYZ$.?0123456789"
 
@@ -35,7 +35,7 @@ place b (x ∷ xs) = let r = place b xs in cond (eqb x b) 0 (suc r)
 unfoldable pub codeOf : ℕ → ℕ
 codeOf b = place b alphabet
 
--- three characters make first·1600 + second·40 + third
+-- a word holds three codes, as the digits of a number to the base 40
 unfoldable pub packed : ℕ → ℕ → ℕ → ℕ
 packed x y z = codeOf x * 1600 + codeOf y * 40 + codeOf z
 
@@ -50,7 +50,7 @@ spelled w = shown (w / 1600) ∷ shown (w / 40 % 40) ∷ shown (w % 40) ∷ []
 unfoldable pub textOf : ℕ → ℕ → ℕ → List ℕ
 textOf a b c = spelled a ++ spelled b ++ spelled c
 
--- A requested name: only A to Z and 0 to 9
+-- a character that a requested name may have
 unfoldable pub inName : ℕ → Bool
 inName b = isLetter b || isDigit b
 
@@ -62,12 +62,12 @@ unfoldable pub blank : List ℕ → Bool
 blank [] = true
 blank (b ∷ bs) = let r = blank bs in eqb b space && r
 
--- padded right with spaces, none inside
+-- once a space comes, only spaces follow
 unfoldable pub padded : List ℕ → Bool
 padded [] = true
 padded (b ∷ bs) = let r = padded bs in cond (eqb b space) (blank bs) (inName b && r)
 
--- nine bytes: a name of 1 to 6 characters and an extension of 0 to 3
+-- the text of a requested name: six bytes of name, the first of them no space, and three of extension
 unfoldable pub legalText : List ℕ → Bool
 legalText t = eqb (length t) 9 && inName (getD t 0 0) && padded (take 6 t) && padded (drop 6 t)
 
@@ -75,11 +75,11 @@ legalText t = eqb (length t) 9 && inName (getD t 0 0) && padded (take 6 t) && pa
 unfoldable pub spells : ℕ → Bool
 spells w = leb w 63999
 
--- three words in a request: the words of a legal text
+-- three words are a requested name where each spells something, and together a legal text
 unfoldable pub legalName : ℕ → ℕ → ℕ → Bool
 legalName a b c = spells a && spells b && spells c && legalText (textOf a b c)
 
--- Illegal text answers 7 and zero words
+-- text to words; 7 and zeros where the text is not legal
 unfoldable pub wordsOfText : List ℕ → NameWords
 wordsOfText t =
     cond (legalText t)
@@ -91,7 +91,7 @@ wordsOfText t =
     })
     (record { number = 7; first = 0; second = 0; extension = 0 })
 
--- three words with one above 63,999 answer 7 and blanks
+-- words to text; 7 and spaces where a word spells nothing
 unfoldable pub textOfWords : ℕ → ℕ → ℕ → NameText
 textOfWords a b c =
     cond (spells a && spells b && spells c)

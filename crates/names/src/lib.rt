@@ -1,2 +1,6 @@
 // Names (document 01, "Names and dates"): Radix-50 words. Nothing here knows of directories.
 pub mod radix;
+
+pub use radix::is_legal_name;
+pub use radix::text_of_words;
+pub use radix::words_of_text;

@@ -1,4 +1,4 @@
--- What the reader promises (document 01: "A reader that walks the entries holds the borrowed directory and its place").
+-- What the reader promises (document 01, "Requests", its last sentence).
 use Prim.Native.Nat.{ℕ, zero, suc}
 use mathlib.Core.Path.{_≡_}
 use mathlib.Core.Bool.{Bool, true, false, cond, not}

@@ -1,4 +1,4 @@
-// A reader that walks the entries: it holds the borrowed directory and its place. The borrow checker covers no function over such
+// A walker over the entries: a struct that borrows the directory and knows where in it it stands. The checker covers no function over such
 // a struct, so each is proved by hand and kept thin: it takes the struct apart and leaves the work to a covered function on the
 // slice. `row` stands above them with plain parameters, for every other caller.
 use cursor::Cursor;

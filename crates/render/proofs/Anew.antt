@@ -8,7 +8,7 @@ use mathlib.Core.List.{List, [], _∷_, _++_, append-assoc, append-nil}
 use native.Mathlib.Omega.{arith}
 use native.Mathlib.Nat.{suc-mul, add-mul}
 use lib.ListN.{length, getD, take, drop, set, replicate, length-append, length-drop, length-set, length-replicate}
-use lib.Seq.{take-add, take-all, take-take, drop-drop, drop-at, length-take-le, set-append-left, getD-take, getD-drop}
+use lib.Seq.{take-add, take-all, take-take, drop-drop, length-take-le, set-append-left, getD-take, getD-drop}
 use lib.Dec.{eqb}
 use borrow.Author.Tests.{eq-eqb, ne-eqb}
 use Rattle.meaning.specs.declared.Name.{Name}
@@ -16,10 +16,12 @@ use Rattle.meaning.specs.Kinds.{emptyStatus, endStatus}
 use Rattle.meaning.specs.Words.{Entry, blocks, chunks}
 use Rattle.meaning.specs.Requests.{entryOf, emptyEntry, flat, render}
 use Rattle.meaning.specs.Enter.{inserted}
-use Rattle.copying.specs.Written.{Written}
+use Rattle.segment.specs.Written.{Written}
 use Rattle.render.specs.Anew.{gapWords, insertedWords, renderedWords}
-use Rattle.copying.proofs.Writes.{one-written, both-written, set-written, take-zeros, written-anew}
-use Rattle.render.proofs.Chunks.{take-chunks, drop-chunks, at-chunks, flat-split, flat-append, flat-chunks}
+use Rattle.segment.proofs.Writes.{one-written, both-written, set-written, written-anew}
+use Rattle.walks.proofs.Words.{take-zeros, drop-take}
+use Rattle.walks.proofs.Slots.{take-chunks, drop-chunks, at-chunks}
+use Rattle.walks.proofs.Flat.{flat-split, flat-append, flat-chunks}
 
 -- an entry of w words is the first w of a longer one
 pub entry-take : (w s : ℕ) (m : Name) (n x d : ℕ) → 7 ≤ w → w ≤ 23 → take w (entryOf 23 s m n x d) ≡ entryOf w s m n x d
@@ -28,10 +30,6 @@ entry-take w s m n x d h k =
     let e : w ≡ suc (suc (suc (suc (suc (suc (suc (w - 7))))))) = omega arith in
     ap (λ (i : ℕ). take i (entryOf 23 s m n x d)) e
     ∙ ap {B = List ℕ} (λ l. s ∷ m .first ∷ m .second ∷ m .extension ∷ n ∷ x ∷ d ∷ l) (take-zeros (w - 7) 16 (omega arith))
-
-pub entry-length : (w s : ℕ) (m : Name) (n x d : ℕ) → 7 ≤ w → length (entryOf w s m n x d) ≡ w
-unfolding entryOf
-entry-length w s m n x d h = omega (arith, length-replicate {A = ℕ} (w - 7) 0)
 
 -- the name of an empty entry that is made
 abbrev pub blank : Name
@@ -59,13 +57,6 @@ unfolding flat
 gap-flat true e = append-nil e
 gap-flat false e = refl
 
--- the rest of the first b words
-pub drop-take : (a b : ℕ) (l : List ℕ) → a ≤ b → a ≤ length l → drop a (take b l) ≡ take (b - a) (drop a l)
-drop-take a b l h k =
-    let e : a + (b - a) ≡ b = omega arith in
-    ap (λ (i : ℕ). drop a (take i l)) (sym e)
-    ∙ rw (take-add a (b - a) l) (drop-at (take a l) (take (b - a) (drop a l)) a (length-take-le a l k))
-
 -- the words of the entries after an insertion
 ins-flat : (xs g rest : List Entry) (new area : Entry)
     → flat (xs ++ g ++ new ∷ area ∷ rest) [] ≡ flat xs [] ++ flat g [] ++ new ++ (area ++ flat rest [])
@@ -90,7 +81,7 @@ module _ (m k w : ℕ) (l : List ℕ) (low : k < m) (wide : 7 ≤ w) (fit : m * 
       let b = below in
       let e : m * w - k * w ≡ w + (m - suc k) * w = omega arith in
       let n : length (take w (drop (k * w) l)) ≡ w = length-take-le w (drop (k * w) l) (rw (length-drop (k * w) l) (omega arith)) in
-      rw (drop-take (k * w) (m * w) l (omega arith) (omega arith), e, take-add w ((m - suc k) * w) (drop (k * w) l), drop-drop w (k * w) l)
+      rw (drop-take (k * w) (m * w) l, e, take-add w ((m - suc k) * w) (drop (k * w) l), drop-drop w (k * w) l)
       (sym (set-append-left (take w (drop (k * w) l)) _ 4 y (omega arith)) ∙ rw (suc-mul k w))
 
   pub inserted-words : (cost : ℕ) (new : Entry) → length new ≡ w

@@ -11,10 +11,10 @@ use lib.Seq.{drop-drop, getD-take, getD-drop}
 use Rattle.meaning.specs.Kinds.{kindOf, isTentative}
 use Rattle.meaning.specs.Words.{chunks, slots, upto, total}
 use Rattle.meaning.specs.Enter.{endsTentative, kept}
-use Rattle.segment.proofs.Slots.{word, mul-less, chunks-step}
+use Rattle.walks.proofs.Words.{word}
+use Rattle.walks.proofs.Slots.{mul-less, chunks-step, first-slots}
 use Rattle.segment.specs.Count.{Counted}
 use Rattle.render.specs.Halves.{KeptOf}
-use Rattle.render.proofs.Chunks.{first-slots}
 
 module _ (g : List ℕ) (w left p : ℕ) (h : 0 < left) (wide : 7 ≤ w) where
   pub total-more : total (chunks left w (drop p g)) ≡ getD g (p + 4) 0 + total (chunks (left - 1) w (drop (p + w) g))

@@ -8,14 +8,16 @@ use native.Mathlib.Decide.{ℕ-discrete}
 use native.Mathlib.Omega.{arith}
 use lib.ListN.{length, getD, take, drop, set, replicate, drop-of-length-le, length-append, length-drop, length-set}
 use lib.ListN.{length-replicate}
-use lib.Seq.{take-add, take-take, drop-drop, getD-take, getD-drop, length-take-le, take-append-add}
+use lib.Seq.{take-add, take-take, drop-drop, getD-take, getD-drop, length-take-le}
 use Rattle.meaning.specs.Kinds.{emptyStatus, endStatus}
 use Rattle.meaning.specs.Words.{Entry, blocks}
-use Rattle.copying.specs.Written.{Written}
-use Rattle.copying.proofs.Writes.{one-written, both-written, set-add, set-written, take-zeros}
-use Rattle.copying.proofs.Moves.{prior-written}
+use Rattle.segment.specs.Written.{Written}
+use Rattle.segment.proofs.Writes.{one-written, both-written, set-add, set-written}
+use Rattle.walks.proofs.Words.{drop-take, cut-zeros}
+use Rattle.segment.proofs.Moves.{prior-written}
 use Rattle.render.specs.Anew.{gapWords, insertedWords, renderedWords, insertedInto, Insertable}
-use Rattle.render.proofs.Anew.{entry-length, blank, gap-none, gap-some, drop-take}
+use Rattle.render.proofs.Anew.{blank, gap-none, gap-some}
+use Rattle.walks.proofs.Flat.{entry-length}
 
 -- the gap and the new entry take the slots that the area costs
 gap-length : (w cost : ℕ) → 7 ≤ w → 1 ≤ cost → cost ≤ 2 → length (gapWords w cost) + w ≡ cost * w
@@ -24,14 +26,6 @@ gap-length w cost h k l = go (ℕ-discrete cost 2)
     go : Dec (cost ≡ 2) → length (gapWords w cost) + w ≡ cost * w
     go (yes e) = rw (gap-some w cost e, entry-length w emptyStatus blank 0 0 0 h, e) (omega arith)
     go (no n) = let e : cost ≡ 1 = omega (arith, n) in rw (gap-none w cost n, e) (omega arith)
-
--- words before zeros, cut to m
-cut-zeros : (m : ℕ) (l : List ℕ) → length l ≤ m → take m (l ++ replicate m 0) ≡ l ++ replicate (m - length l) 0
-cut-zeros m l h =
-    let e : m ≡ length l + (m - length l) = omega arith in
-    ap (λ (i : ℕ). take i (l ++ replicate m 0)) e
-    ∙ take-append-add l (replicate m 0) (m - length l)
-    ∙ rw (take-zeros (m - length l) m (omega arith))
 
 module _ {g : List ℕ} {stop p cost : ℕ} {new : Entry} (i : Insertable g stop p cost new) where
   -- how far the entries grow, those from the area on, and its length afterwards
@@ -78,7 +72,7 @@ module _ {g : List ℕ} {stop p cost : ℕ} {new : Entry} (i : Insertable g stop
       let wide = i .wide in
       rw (
         take-take (p - 5) (stop - 5) (drop 5 g) (omega arith),
-        drop-take (p - 5) (stop - 5) (drop 5 g) (omega arith) (omega arith),
+        drop-take (p - 5) (stop - 5) (drop 5 g),
         drop-drop (p - 5) 5 g,
         getD-take (stop - 5) (drop 5 g) (p - 5 + 4) 0 (omega arith),
         getD-drop 5 g (p - 5 + 4) 0,
@@ -105,8 +99,12 @@ module _ {g : List ℕ} {stop p cost : ℕ} {new : Entry} (i : Insertable g stop
     both : Written a p added c z
     both = both-written a (gapWords (length new) cost) b new c p y z (omega (arith, u₁ .long, i .slot, i .room, i .whole)) u₂ u₃
 
-    pub next-is : z ≡ p + grown
+    next-is : z ≡ p + grown
     next-is = both .next ∙ omega (arith, added-all)
+
+    -- the area's length, which is changed next, lies in the segment
+    pub area-fits : z + 4 < 512
+    area-fits = omega (arith, next-is, i .slot, i .room, i .wide)
 
     pub long-is : length c ≡ 512
     long-is = both .long ∙ u₁ .long ∙ i .whole

@@ -1,4 +1,3 @@
-pub mod Chunks
 pub mod Anew
 pub mod Counting
 pub mod Parts

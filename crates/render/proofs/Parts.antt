@@ -1,7 +1,7 @@
 -- A part of a segment's slots, rendered with the new entry or as it is. The part is m slots of the words l, and the area stands
 -- after k of them: that is all that an insertion needs, whether into a whole segment or into a half. Half of a segment always has
 -- room for the new entry and a gap, since a segment has at least 22 slots. Assumes nothing.
-use Prim.Native.Nat.{ℕ, _+_, _*_, _-_, _/_, _≤_, _<_}
+use Prim.Native.Nat.{ℕ, _+_, _*_, _/_, _≤_, _<_}
 use mathlib.Core.Path.{_≡_, refl, sym, _∙_}
 use mathlib.Core.Bool.{Bool, true, false, cond}
 use mathlib.Core.List.{List, []}
@@ -15,8 +15,9 @@ use Rattle.meaning.specs.Words.{Entry, blocks, chunks}
 use Rattle.meaning.specs.Requests.{emptyEntry, render}
 use Rattle.meaning.specs.Enter.{inserted}
 use Rattle.render.specs.Anew.{gapWords, insertedWords, renderedWords, Inserting}
-use Rattle.render.proofs.Chunks.{at-chunks, flat-chunks}
-use Rattle.render.proofs.Anew.{entry-length, blank, inserted-words, inserted-length, rendered}
+use Rattle.walks.proofs.Slots.{at-chunks}
+use Rattle.walks.proofs.Flat.{flat-chunks, entry-length}
+use Rattle.render.proofs.Anew.{blank, inserted-words, inserted-length, rendered}
 
 -- m slots of the words l, with the area after k of them; code has the area's word p and the words' count q
 pub record Part (l : List ℕ) (new : Entry) (m k p q : ℕ) : Type 0 where

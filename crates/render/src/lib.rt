@@ -3,17 +3,17 @@
 // the place in the segment where a slot begins.
 pub mod measure;
 
-use copying::clear_from;
-use copying::move_up;
-use copying::put_words;
 use meaning::EMPTY;
 use meaning::END;
 use meaning::Name;
 use meaning::TENTATIVE;
+use segment::copying::clear_from;
+use segment::copying::move_up;
+use segment::copying::put_words;
 ghost use mathlib.Core.Path.{_≡_};
 ghost use Prim.Native.Nat.{_+_, _≤_, _<_};
 ghost use lib.ListN.{length};
-ghost use Rattle.copying.specs.Written.{Written};
+ghost use Rattle.segment.specs.Written.{Written};
 ghost use Rattle.render.specs.Anew.{newEntry, gapWords, insertedWords, renderedWords, Inserting, insertedInto, Insertable};
 
 // The words of the new entry: name, length in blocks, channel word and date.

@@ -7,10 +7,6 @@ use mathlib.Core.List.{List}
 use denote.Ref.{now}
 use Rattle.meaning.specs.declared.Answer.{Answer}
 use Rattle.meaning.specs.Answers.{Outcome, Meets}
-use Rattle.requests.proofs.volume.fault.Reads as fault
-use Rattle.requests.proofs.volume.fresh.Reads as fresh
-use Rattle.requests.proofs.lookup.Reads as lookup
-use Rattle.requests.proofs.serve.Reads as serve
 use Rattle.requests.proofs.delete.Reads as delete
 use Rattle.requests.proofs.rename.Reads as rename
 use Rattle.requests.proofs.abandon.Reads as abandon
@@ -19,20 +15,6 @@ use Rattle.requests.proofs.enter.Reads as enter
 
 one-outcome : (r r′ : Answer) (w w′ : List ℕ) (o : Outcome) → Meets r w o → Meets r′ w′ o → (r ≡ r′) × (w ≡ w′)
 one-outcome r r′ w w′ o p q = (p .answer ∙ sym (q .answer), p .words ∙ sym (q .words))
-
-pub fault-determined : (κs : _) (a : _) (r r′ : _) (s s′ : _) → fault.Post κs a r s → fault.Post κs a r′ s′ → r ≡ r′
-fault-determined κs a r r′ s s′ p q = p ∙ sym q
-
-pub lookup-determined : (κs : _) (a : _) (r r′ : _) (s s′ : _) → lookup.Post κs a r s → lookup.Post κs a r′ s′ → r ≡ r′
-lookup-determined κs a r r′ s s′ p q = p ∙ sym q
-
-pub fresh-determined : (κs : _) (a : _) (r r′ : _) (s s′ : _) → fresh.Post κs a r s → fresh.Post κs a r′ s′
-    → (r ≡ r′) × (now (s .0) ≡ now (s′ .0))
-fresh-determined κs a r r′ s s′ p q = one-outcome r r′ _ _ _ p q
-
-pub serve-determined : (κs : _) (a : _) (r r′ : _) (s s′ : _) → serve.Post κs a r s → serve.Post κs a r′ s′
-    → (r ≡ r′) × (now (s .0) ≡ now (s′ .0))
-serve-determined κs a r r′ s s′ p q = one-outcome r r′ _ _ _ p q
 
 pub delete-determined : (κs : _) (a : _) (r r′ : _) (s s′ : _) → delete.Post κs a r s → delete.Post κs a r′ s′
     → (r ≡ r′) × (now (s .0) ≡ now (s′ .0))

@@ -1,41 +1,16 @@
-// The door: any words, any V and any request may be handed in. The directory's fault is tested first, and then the engine carries the request
-// out or refuses it by its number. A refusal answers zeros and changes no word.
-pub mod volume;
-
-use directory::sound::fault_of;
-use engine::serve_known;
-use files::lookup_sound;
+// Each request as a call of its own: a record that is handed to the door. What the door itself has, the record of any kind, a lookup, the
+// fault and a fresh start, is passed on under this name, so that a user needs no other.
 use meaning::Answer;
 use meaning::Name;
 use meaning::Op;
 use meaning::Request;
-use meaning::refused;
-ghost use mathlib.Core.Path.{_≡_};
 ghost use Rattle.meaning.specs.Answers.{Meets};
-ghost use Rattle.meaning.specs.Requests.{lookup, delete, abandon, rename, close};
+ghost use Rattle.meaning.specs.Requests.{delete, abandon, rename, close};
 ghost use Rattle.meaning.specs.Enter.{enter};
-ghost use Rattle.meaning.specs.Batch.{serve};
-pub use volume::fault;
-pub use volume::fresh;
-
-// One door for a request record of any kind. The other requests that may change words are records handed in here.
-pub fn serve(d: &mut [u16], v: usize, request: Request) -> Answer
-    ensures { λ r. ⌜ Meets r (now (d .exit)) (serve v (now (d .entry)) request) ⌝ }
-{
-    let number = fault_of(d, v);
-    serve_known(d, v, number, request)
-}
-
-// The permanent file of a name. The words are only read.
-pub fn lookup(d: &[u16], v: usize, name: Name) -> Answer
-    ensures { λ r. ⌜ r ≡ lookup v (now (d .entry)) name .answer ⌝ }
-{
-    let number = fault_of(d, v);
-    if number != 0 {
-        return refused(number);
-    }
-    lookup_sound(d, v, name)
-}
+pub use door::fault;
+pub use door::fresh;
+pub use door::lookup;
+pub use door::serve;
 
 // The name of a request that has no use for one.
 const NO_NAME: Name = Name {
@@ -101,8 +76,8 @@ pub fn abandon(d: &mut [u16], v: usize, job: u16, channel: u16) -> Answer
     )
 }
 
-pub fn close(d: &mut [u16], v: usize, job: u16, channel: u16, size: i32) -> Answer
-    ensures { λ r. ⌜ Meets r (now (d .exit)) (close v (now (d .entry)) job channel size) ⌝ }
+pub fn close(d: &mut [u16], v: usize, job: u16, channel: u16, final_length: i32) -> Answer
+    ensures { λ r. ⌜ Meets r (now (d .exit)) (close v (now (d .entry)) job channel «final_length») ⌝ }
 {
     serve(
         d,
@@ -114,7 +89,7 @@ pub fn close(d: &mut [u16], v: usize, job: u16, channel: u16, size: i32) -> Answ
             job,
             channel,
             size: 0,
-            final_length: size,
+            final_length,
             date: 0,
         },
     )

@@ -10,9 +10,10 @@ use native.Mathlib.Omega.{arith}
 use lib.ListN.{length, getD, take, drop}
 use lib.Seq.{drop-drop}
 use Rattle.meaning.specs.Kinds.{kindOf, isEnd}
-use Rattle.meaning.specs.Words.{Entry, slotCount, chunks, slots, upto}
+use Rattle.meaning.specs.Words.{Entry, slotCount, chunks, slots, upto, total}
 use Rattle.segment.specs.Count.{Counted}
-use Rattle.segment.proofs.Slots.{word0, mul-less, chunks-step}
+use Rattle.walks.proofs.Words.{word, word0}
+use Rattle.walks.proofs.Slots.{mul-less, chunks-step}
 
 -- the slot of w words at word p of a segment's words g
 abbrev pub slotAt : List ℕ → ℕ → ℕ → Entry
@@ -42,6 +43,11 @@ module _ (g : List ℕ) (w left p : ℕ) (h : 0 < left) (wide : 7 ≤ w) where
 
   pub ahead-next : isEnd (kindOf (getD g p 0)) ≡ false → ahead g w left p ≡ slotAt g w p ∷ ahead g w (left - 1) (p + w)
   ahead-next e = ahead-step ∙ rw e
+
+  -- the lengths ahead, by the one that code reads
+  pub total-next : isEnd (kindOf (getD g p 0)) ≡ false → total (ahead g w left p) ≡ getD g (p + 4) 0 + total (ahead g w (left - 1) (p + w))
+  unfolding total
+  total-next e = rw (ahead-next e, word g p w 4 (omega arith))
 
 -- slots that a segment has lie in it
 pub slots-room : (m w : ℕ) → m ≤ slotCount w → 5 + m * w ≤ 512

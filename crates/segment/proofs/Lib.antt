@@ -1,5 +1,7 @@
 pub mod Status
-pub mod Slots
 pub mod Scanning
 pub mod Searching
 pub mod Ahead
+pub mod Writes
+pub mod Moves
+pub mod Looking

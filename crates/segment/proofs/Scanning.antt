@@ -21,7 +21,8 @@ use Rattle.segment.specs.declared.scan.Step.{Step}
 use Rattle.segment.specs.declared.scan.Step.the-variants.{Bad, Marker, Next}
 use Rattle.segment.specs.declared.scan.Scan.{Scan}
 use Rattle.segment.specs.declared.scan.Scan.the-variants.{Fault, Sum}
-use Rattle.segment.proofs.Slots.{word, word0, chunks-step}
+use Rattle.walks.proofs.Words.{word, word0}
+use Rattle.walks.proofs.Slots.{chunks-step}
 
 -- what the slot at p says, by the words that code reads
 pub step-words : (g : List ℕ) (p w : ℕ) (owed : Bool) → 7 ≤ w

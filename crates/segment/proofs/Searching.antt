@@ -22,7 +22,8 @@ use Rattle.segment.specs.Steps.{keyedBy}
 use Rattle.segment.specs.declared.finder.Place.{Place}
 use Rattle.segment.specs.declared.finder.Found.{Found}
 use Rattle.segment.specs.declared.finder.Found.the-variants.{At}
-use Rattle.segment.proofs.Slots.{word, word0, chunks-step}
+use Rattle.walks.proofs.Words.{word, word0}
+use Rattle.walks.proofs.Slots.{chunks-step}
 
 -- whether the slot at p has a key, by the words that code reads
 pub keyed-words : (key : Key) (g : List ℕ) (p w : ℕ) → 7 ≤ w

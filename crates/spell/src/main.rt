@@ -9,9 +9,9 @@ use dates::is_good_date;
 use dates::word_of_day;
 use libc::STDIN_FILENO;
 use libc::STDOUT_FILENO;
-use names::radix::is_legal_name;
-use names::radix::text_of_words;
-use names::radix::words_of_text;
+use names::is_legal_name;
+use names::text_of_words;
+use names::words_of_text;
 
 // Adler's check sum: but for rare chances it shows every wrong number, and right ones in a wrong order.
 

@@ -16,12 +16,15 @@ use Rattle.meaning.specs.Words.{entries, chainFrom, chain}
 use Rattle.meaning.specs.Sound.{any}
 use Rattle.meaning.specs.Enter.{Area, isArea, hasRoom, areasIn, areas, hasRun, hasZero, untidy, tidy, tidiedAt, tidied}
 use Rattle.walks.specs.Links.{linked}
+use Rattle.walks.proofs.Tidied.{segment-long}
 use Rattle.walks.proofs.Untidy.{tidy-none, untidy-counted}
 use Rattle.chain.specs.Chained.{Chained}
-use Rattle.chain.proofs.Links.{header, part-is, linkAt, next}
-use Rattle.chain.proofs.Replaced.{partOf, segment-length}
+use Rattle.chain.proofs.Links.{part-is, linkAt, next, chain-next}
+use Rattle.walks.proofs.Words.{segment-length}
+use Rattle.chain.proofs.Replaced.{partOf}
 use Rattle.tidy.specs.Tidied.{Tidyable, Small, TidyKept}
-use Rattle.tidy.proofs.Headers.{step}
+use Rattle.walks.proofs.Linked.{visit}
+use Rattle.walks.proofs.Lists.{chain-over}
 use Rattle.tidy.proofs.InPlace.{tidied-kept}
 use Rattle.tidy.proofs.AfterTidy.{highest-same, capacity-same, segments-same, first-same}
 use Rattle.choice.specs.Room.{roomFor, roomBy, Free}
@@ -33,7 +36,7 @@ use Rattle.survey.specs.declared.runs.Outline.{Outline}
 use Rattle.survey.specs.declared.runs.OpenRun.the-variants.{Calm}
 use Rattle.survey.specs.declared.areas.Survey.{Survey}
 use Rattle.survey.specs.declared.areas.Findings.{Findings}
-use Rattle.survey.proofs.Tidied.{entries-kept, survey-tidied}
+use Rattle.survey.proofs.Tidied.{survey-tidied}
 use Rattle.survey.proofs.Surveys.{survey-nothing, survey-append, survey-entries, nothing, survey-is}
 
 -- the areas among the tidied entries of segment s, and of several
@@ -54,13 +57,13 @@ module _ (d t : List ℕ) (k : TidyKept d t) where
   unfolding areas areasAlong chainFrom
   along-same zero s h = refl
   along-same (suc n) s h =
-      let p = step n d s h in
+      let p = visit n d s h in
       rw (
-        k .used s (p .0) (p .1),
-        first-same d t k s (p .0),
+        k .used s (p .low) (p .high),
+        first-same d t k s (p .low),
         areas-same (hasRoom t (tidy (entries d s))) (hasRoom d (tidy (entries d s))) (λ c a b. room-same (tidy (entries d s)) c) s 0
             (firstOf (segment d s)) false (tidy (entries d s)),
-        along-same n (linkOf (segment d s)) (p .2),
+        along-same n (linkOf (segment d s)) (p .rest),
       )
 
 pub areas-along : (d : List ℕ) → Chained d → areas (tidied d (chain d)) (chain d) ≡ areasAlong d (chain d)
@@ -69,16 +72,12 @@ areas-along d c = along-same d (tidied d (chain d)) (tidied-kept d c) (highest d
 
 along-next : (n : ℕ) (d : List ℕ) (s : ℕ) → 0 < n
     → areasAlong d (chainFrom n d s) ≡ areasAt d s ++ areasAlong d (chainFrom (n - 1) d (linkAt d s))
-unfolding areasAlong chainFrom
-along-next zero d s h = absurd (omega arith)
-along-next (suc n) d s h =
-    let m : suc n - 1 ≡ n = omega arith in
-    rw (m, ← header d s 1 (omega arith))
+unfolding areasAlong
+along-next n d s h = rw (chain-next n d s h)
 
 along-none : (n : ℕ) (d : List ℕ) (s : ℕ) → n ≤ 0 → areasAlong d (chainFrom n d s) ≡ []
-unfolding areasAlong chainFrom
-along-none zero d s h = refl
-along-none (suc n) d s h = absurd (omega arith)
+unfolding areasAlong
+along-none n d s h = rw (chain-over n d s h)
 
 -- without an area the tidy changes nothing, and there is nothing to survey
 calm-run : (es : List Entry) → any isArea es ≡ false → hasRun es ≡ false
@@ -149,7 +148,7 @@ module _ (g : List ℕ) (w m : ℕ) (spare : Bool) (f : Survey) (y : Tidyable w 
       record {
         areas = λ s b.
             e
-            ∙ survey-tidied m r f (upto (slots w g)) (entries-kept g w y)
+            ∙ survey-tidied m r f (upto (slots w g)) (segment-long w g (y .wide) (y .whole))
             ∙ sym (survey-entries m r s 0 b false ts f)
             ∙ ap (surveyOf m f) (areas-same (roomFor r) (roomBy w spare (length ts)) (k .is) s 0 b false ts);
         untidy = untidy-seen;
@@ -161,16 +160,12 @@ anyUntidy d ss = any (λ s. untidy (entries d s)) ss
 
 untidy-next : (n : ℕ) (d : List ℕ) (s : ℕ) → 0 < n
     → anyUntidy d (chainFrom n d s) ≡ untidy (entries d s) || anyUntidy d (chainFrom (n - 1) d (linkAt d s))
-unfolding any chainFrom
-untidy-next zero d s h = absurd (omega arith)
-untidy-next (suc n) d s h =
-    let m : suc n - 1 ≡ n = omega arith in
-    rw (m, ← header d s 1 (omega arith))
+unfolding any
+untidy-next n d s h = rw (chain-next n d s h)
 
 untidy-none : (n : ℕ) (d : List ℕ) (s : ℕ) → n ≤ 0 → anyUntidy d (chainFrom n d s) ≡ false
-unfolding any chainFrom
-untidy-none zero d s h = refl
-untidy-none (suc n) d s h = absurd (omega arith)
+unfolding any
+untidy-none n d s h = rw (chain-over n d s h)
 
 -- the invariant of the walk over the chain: left segments are ahead, from s on
 pub record Visiting (d : List ℕ) (m left s : ℕ) (f : Survey) (x : Bool) : Type 0 where
@@ -182,10 +177,10 @@ pub starts : (d : List ℕ) (m : ℕ) → Chained d → Visiting d m (highest d)
 unfolding chain
 starts d m c = record { links = c .links; same = refl; mixed = refl }
 
-pub all-surveyed : (d : List ℕ) (m left s : ℕ) (f : Survey) (x : Bool) → Chained d → Visiting d m left s f x → left ≤ 0
+pub all-surveyed : {d : List ℕ} {m left s : ℕ} {f : Survey} {x : Bool} → Chained d → Visiting d m left s f x → left ≤ 0
     → FoundAlong (record { areas = f; untidy = x }) d m
 unfolding surveyOf
-all-surveyed d m left s f x c i h = record {
+all-surveyed {d} {m} {left} {s} {f} {x} c i h = record {
   areas = rw (areas-along d c) (survey-is m (areasAlong d (chain d)) f (rw (along-none left d s h) at (i .same)));
   untidy = sym (or-false x) ∙ (rw (untidy-none left d s h) at (i .mixed));
 }
@@ -210,12 +205,12 @@ module _ (d : List ℕ) (c : Chained d) (s : ℕ) (low : 1 ≤ s) (high : s ≤ 
   }
 
   -- one segment more, and what is found there
-  pub one-surveyed : (m left : ℕ) (f : Survey) (x : Bool) → Visiting d m left s f x → 0 < left → (r : Findings)
+  pub one-surveyed : {m left : ℕ} {f : Survey} {x : Bool} → Visiting d m left s f x → 0 < left → (r : Findings)
       → Found r m (slotWords d) (ltb (highest d) (segments d)) f (upto (slots (slotWords d) (partOf d s)))
       → (z : Bool) → z ≡ x || r .untidy
       → Visiting d m (left - 1) (linkAt d s) (r .areas) z
   unfolding entries
-  one-surveyed m left f x i h r q z e =
+  one-surveyed {m} {left} {f} {x} i h r q z e =
       let es : List Entry = entries d s in
       let room = roomBy (slotWords d) (ltb (highest d) (segments d)) (length (tidy es)) in
       let rest = areasAlong d (chainFrom (left - 1) d (linkAt d s)) in
@@ -225,7 +220,7 @@ module _ (d : List ℕ) (c : Chained d) (s : ℕ) (low : 1 ≤ s) (high : s ≤ 
       ∙ ap (surveyOf m f)
       (areas-same room (hasRoom d (tidy es)) (λ c a b. room-of d (tidy es) c) s 0 (firstOf (segment d s)) false (tidy es)) in
       record {
-        links = next left d s h (i .links) .rest;
+        links = next left d s c h (i .links) .rest;
         same = rw (v, ← survey-append m f (areasAt d s) rest, ← along-next left d s h) (i .same);
         mixed =
             rw (e, p .untidy, or-assoc x (untidy es) (anyUntidy d (chainFrom (left - 1) d (linkAt d s))), ← untidy-next left d s h)

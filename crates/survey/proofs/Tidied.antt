@@ -1,7 +1,7 @@
 -- What a walk by sums meets is what the tidy leaves. The machine of the tidy keeps a run by its first entry and its sum; of what it lets
 -- out only the sum and what stands before are asked, which the walk has too. So by induction on the entries ahead the walk counts, and
 -- surveys, the tidied entries. Assumes nothing.
-use Prim.Native.Nat.{ℕ, _+_, _<_}
+use Prim.Native.Nat.{ℕ, _+_}
 use mathlib.Core.Path.{_≡_, refl, sym, _∙_}
 use mathlib.Core.Bool.{Bool, true, false, cond}
 use mathlib.Core.List.{List, [], _∷_, _++_}
@@ -11,10 +11,8 @@ use Rattle.meaning.specs.Kinds.{isTentative, isEmpty}
 use Rattle.meaning.specs.Words.{Entry, lengthWord, kind, blocks, slots, upto}
 use Rattle.meaning.specs.Enter.{isArea, tidy}
 use Rattle.walks.specs.Runs.{RunSoFar, calm, within, absorb, flushed, tidyFrom, Long}
-use Rattle.walks.proofs.Tidied.{kind-set, blocks-set, tidy-from}
+use Rattle.walks.proofs.Tidied.{kind-set, blocks-set, Open, absorb-open, tidy-from, segment-long}
 use Rattle.tidy.specs.Tidied.{Tidyable}
-use Rattle.tidy.proofs.Flat.{entries-proper}
-use Rattle.tidy.proofs.Tidying.{proper-long}
 use Rattle.choice.specs.Room.{eligibleBy}
 use Rattle.survey.specs.Runs.{dropped, absorbed, after, leaves, lets, countRuns}
 use Rattle.survey.specs.Surveyed.{noted, settled, met, surveyRuns}
@@ -30,15 +28,6 @@ openOf (within e t p) = Within t p
 abbrev beforeOf : RunSoFar → Bool
 beforeOf (calm p) = p
 beforeOf (within e t p) = p
-
--- the entry of an open run is empty and long
-abbrev Open : RunSoFar → Type 0
-Open (calm p) = Unit
-Open (within e t p) = (isArea e ≡ true) × (lengthWord < length e)
-
-absorb-open : (r : RunSoFar) (f : Entry) → Open r → isArea f ≡ true → lengthWord < length f → Open (absorb r f)
-absorb-open (calm p) f o a h = (a, h)
-absorb-open (within e t p) f o a h = o
 
 absorb-same : (r : RunSoFar) (f : Entry) → absorbed (openOf r) (blocks f) ≡ openOf (absorb r f)
 absorb-same (calm p) f = refl
@@ -82,13 +71,9 @@ count-run n r (f ∷ fs) = go (isArea f) refl (count-run (n + 0) (absorb r f) fs
 count-tidied : (es : List Entry) → Long es → countRuns 0 (Calm false) es ≡ length (tidy es)
 count-tidied es h = count-run 0 (calm false) es ∙ rw (tidy-from es h) (omega arith)
 
--- the entries of a segment have length words
-pub entries-kept : (g : List ℕ) (w : ℕ) → Tidyable w g → Long (upto (slots w g))
-entries-kept g w y = proper-long w (upto (slots w g)) (y .wide) (entries-proper w g (y .whole))
-
 pub all-counted : (g : List ℕ) (w : ℕ) → Tidyable w g
     → countRuns 0 (Calm false) (upto (slots w g)) ≡ length (tidy (upto (slots w g)))
-all-counted g w y = count-tidied (upto (slots w g)) (entries-kept g w y)
+all-counted g w y = count-tidied (upto (slots w g)) (segment-long w g (y .wide) (y .whole))
 
 -- the survey
 module _ (m free : ℕ) where

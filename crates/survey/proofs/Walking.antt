@@ -2,7 +2,7 @@
 -- segment, so the sum fits a word. What the walk has counted, or surveyed, with the entries ahead is what all entries give; each turn
 -- takes the slot at hand by the two words that code reads. Assumes nothing.
 use Prim.Native.Nat.{ℕ, suc, _+_, _*_, _-_, _≤_, _<_}
-use mathlib.Core.Path.{_≡_, refl, ap, _∙_}
+use mathlib.Core.Path.{_≡_, refl, sym, ap, _∙_}
 use mathlib.Core.Bool.{Bool, true, false, cond}
 use mathlib.Core.List.{List, [], _∷_}
 use native.Mathlib.Omega.{arith}
@@ -10,14 +10,16 @@ use lib.ListN.{length, getD}
 use Rattle.meaning.specs.declared.Kind.{Kind}
 use Rattle.meaning.specs.Kinds.{kindOf, isTentative, isEmpty, isEnd}
 use Rattle.meaning.specs.Words.{Entry, kind, blocks, slotCount, slots, upto, total}
-use Rattle.segment.proofs.Slots.{word, word0, mul-less}
-use Rattle.segment.proofs.Ahead.{slotAt, ahead, ahead-all, ahead-none, ahead-end, ahead-next, first-room, few-slots}
+use Rattle.walks.proofs.Words.{word, word0}
+use Rattle.walks.proofs.Slots.{mul-less}
+use Rattle.segment.proofs.Ahead.{slotAt, ahead, ahead-all, ahead-none, ahead-end, ahead-next, total-next, first-room, few-slots}
 use Rattle.tidy.specs.Tidied.{Tidyable}
-use Rattle.survey.specs.Runs.{sumSoFar, absorbed, after, leaves, lets, countRuns}
+use Rattle.survey.specs.Runs.{sumSoFar, absorbed, after, leaves, lets, countRuns, Outlined}
 use Rattle.survey.specs.Surveyed.{settled, met, surveyRuns}
 use Rattle.survey.specs.declared.runs.OpenRun.{OpenRun}
 use Rattle.survey.specs.declared.runs.OpenRun.the-variants.{Calm, Within}
 use Rattle.survey.specs.declared.areas.Survey.{Survey}
+use Rattle.survey.proofs.Tidied.{all-counted}
 
 -- where the walk stands: left slots are ahead, from word p on
 pub record Walking (g : List ℕ) (w left p : ℕ) (run : OpenRun) : Type 0 where
@@ -39,19 +41,15 @@ after-sum run κ n = go run (isEmpty κ)
 -- one slot more
 module _ (g : List ℕ) (w left p : ℕ) (run : OpenRun) (i : Walking g w left p run) (h : 0 < left) (wide : 7 ≤ w)
     (e : isEnd (kindOf (getD g p 0)) ≡ false) where
-  sum-more : total (ahead g w left p) ≡ getD g (p + 4) 0 + total (ahead g w (left - 1) (p + w))
-  unfolding total
-  sum-more = rw (ahead-next g w left p h wide e, word g p w 4 (omega arith))
-
   pub sum-fits : sumSoFar run + getD g (p + 4) 0 ≤ 65535
-  sum-fits = omega (arith, i .sums, sum-more)
+  sum-fits = omega (arith, i .sums, total-next g w left p h wide e)
 
-  pub walks-on : (r : OpenRun) → r ≡ after run (kindOf (getD g p 0)) (getD g (p + 4) 0) → Walking g w (left - 1) (p + w) r
+  walks-on : (r : OpenRun) → r ≡ after run (kindOf (getD g p 0)) (getD g (p + 4) 0) → Walking g w (left - 1) (p + w) r
   walks-on r q =
       rw q
       (record {
         place = omega (arith, i .place, mul-less left w h);
-        sums = omega (arith, i .sums, sum-more, after-sum run (kindOf (getD g p 0)) (getD g (p + 4) 0));
+        sums = omega (arith, i .sums, total-next g w left p h wide e, after-sum run (kindOf (getD g p 0)) (getD g (p + 4) 0));
       })
 
 -- the count, and the survey, over no entry and over one more
@@ -74,23 +72,17 @@ unfolding surveyRuns
 survey-step m free f run e es = refl
 
 module _ (g : List ℕ) (w left p : ℕ) (run : OpenRun) where
-  pub count-over : (n : ℕ) → left ≤ 0 → n + leaves run ≡ countRuns n run (ahead g w left p)
-  count-over n h = rw (ahead-none g w left p h, count-nothing n run)
-
-  pub survey-over : (m free : ℕ) (f : Survey) → left ≤ 0 → settled m free f run ≡ surveyRuns m free f run (ahead g w left p)
+  survey-over : (m free : ℕ) (f : Survey) → left ≤ 0 → settled m free f run ≡ surveyRuns m free f run (ahead g w left p)
   survey-over m free f h = rw (ahead-none g w left p h, survey-nothing m free f run)
 
   module _ (h : 0 < left) (wide : 7 ≤ w) where
-    pub count-end : (n : ℕ) → isEnd (kindOf (getD g p 0)) ≡ true → n + leaves run ≡ countRuns n run (ahead g w left p)
-    count-end n e = rw (ahead-end g w left p h wide e, count-nothing n run)
-
-    pub survey-end : (m free : ℕ) (f : Survey) → isEnd (kindOf (getD g p 0)) ≡ true
+    survey-end : (m free : ℕ) (f : Survey) → isEnd (kindOf (getD g p 0)) ≡ true
         → settled m free f run ≡ surveyRuns m free f run (ahead g w left p)
     survey-end m free f e = rw (ahead-end g w left p h wide e, survey-nothing m free f run)
 
     module _ (e : isEnd (kindOf (getD g p 0)) ≡ false) (r : OpenRun)
         (q : r ≡ after run (kindOf (getD g p 0)) (getD g (p + 4) 0)) where
-      pub count-next : (n k : ℕ) → k ≡ lets run (kindOf (getD g p 0))
+      count-next : (n k : ℕ) → k ≡ lets run (kindOf (getD g p 0))
           → countRuns (n + k) r (ahead g w (left - 1) (p + w)) ≡ countRuns n run (ahead g w left p)
       count-next n k s =
           rw (
@@ -102,7 +94,7 @@ module _ (g : List ℕ) (w left p : ℕ) (run : OpenRun) where
             s,
           )
 
-      pub survey-next : (m free : ℕ) (f u : Survey) → u ≡ met m free f run (kindOf (getD g p 0))
+      survey-next : (m free : ℕ) (f u : Survey) → u ≡ met m free f run (kindOf (getD g p 0))
           → surveyRuns m free u r (ahead g w (left - 1) (p + w)) ≡ surveyRuns m free f run (ahead g w left p)
       survey-next m free f u s =
           rw (
@@ -131,18 +123,22 @@ outlining g w y = record {
   passed = rw (ahead-all g w) (omega arith);
 }
 
-module _ (g : List ℕ) (w left p count : ℕ) (run : OpenRun) (i : Outlining g w left p count run) where
-  -- no entry is ahead
-  ended : ahead g w left p ≡ [] → slotCount w - left ≡ length (upto (slots w g))
-  ended e =
+module _ {g : List ℕ} {w left p count : ℕ} {run : OpenRun} (i : Outlining g w left p count run) where
+  -- no entry is ahead, and so many are left by the run
+  ended : ahead g w left p ≡ [] → {k : ℕ} → k ≡ leaves run → Tidyable w g
+      → Outlined (record { count = count + k; entries = slotCount w - left }) (upto (slots w g))
+  ended e q y =
       let l : slotCount w - left + 0 ≡ length (upto (slots w g)) = rw e at (i .passed) in
-      omega arith
+      let c : countRuns count run [] ≡ countRuns 0 (Calm false) (upto (slots w g)) = rw e at (i .same) in
+      record { count = rw q (sym (count-nothing count run) ∙ c ∙ all-counted g w y); entries = omega arith }
 
-  pub outline-over : left ≤ 0 → slotCount w - left ≡ length (upto (slots w g))
+  pub outline-over : left ≤ 0 → {k : ℕ} → k ≡ leaves run → Tidyable w g
+      → Outlined (record { count = count + k; entries = slotCount w - left }) (upto (slots w g))
   outline-over h = ended (ahead-none g w left p h)
 
   module _ (h : 0 < left) (wide : 7 ≤ w) where
-    pub outline-end : isEnd (kindOf (getD g p 0)) ≡ true → slotCount w - left ≡ length (upto (slots w g))
+    pub outline-end : isEnd (kindOf (getD g p 0)) ≡ true → {k : ℕ} → k ≡ leaves run → Tidyable w g
+        → Outlined (record { count = count + k; entries = slotCount w - left }) (upto (slots w g))
     outline-end e = ended (ahead-end g w left p h wide e)
 
     -- one slot more
@@ -166,3 +162,23 @@ pub record Surveying (g : List ℕ) (w free m : ℕ) (given : Survey) (left p : 
 pub surveying : (g : List ℕ) (w free m : ℕ) (given : Survey) → Tidyable w g
     → Surveying g w free m given (slotCount w) 5 given (Calm false)
 surveying g w free m given y = record { walks = starts g w y; same = rw (ahead-all g w) }
+
+module _ {g : List ℕ} {w free m : ℕ} {given : Survey} {left p : ℕ} {f : Survey} {run : OpenRun}
+    (i : Surveying g w free m given left p f run) where
+  abbrev surveyed : Survey
+  surveyed = surveyRuns m free given (Calm false) (upto (slots w g))
+
+  pub surveyed-over : left ≤ 0 → settled m free f run ≡ surveyed
+  surveyed-over h = survey-over g w left p run m free f h ∙ i .same
+
+  module _ (h : 0 < left) (wide : 7 ≤ w) where
+    pub surveyed-end : isEnd (kindOf (getD g p 0)) ≡ true → settled m free f run ≡ surveyed
+    surveyed-end e = survey-end g w left p run h wide m free f e ∙ i .same
+
+    -- one slot more
+    pub survey-on : isEnd (kindOf (getD g p 0)) ≡ false → {r : OpenRun} → r ≡ after run (kindOf (getD g p 0)) (getD g (p + 4) 0)
+        → {u : Survey} → u ≡ met m free f run (kindOf (getD g p 0)) → Surveying g w free m given (left - 1) (p + w) u r
+    survey-on e {r} q {u} s = record {
+      walks = walks-on g w left p run (i .walks) h wide e r q;
+      same = survey-next g w left p run h wide e r q m free f u s ∙ i .same;
+    }

@@ -27,7 +27,7 @@ absorbed (Within t p) n = Within (t + n) p
 unfoldable pub after : OpenRun → Kind → ℕ → OpenRun
 after run κ n = cond (isEmpty κ) (absorbed run n) (Calm (isTentative κ))
 
--- a zero sum is dropped unless a tentative entry stands before it
+-- whether a run leaves no area: it has no blocks, and no tentative entry needs it
 abbrev pub dropped : ℕ → Bool → Bool
 dropped t p = eqb t 0 && not p
 

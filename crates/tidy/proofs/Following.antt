@@ -15,9 +15,11 @@ use Rattle.walks.specs.Links.{linked}
 use Rattle.walks.proofs.Tidied.{tidy-total, entries-long}
 use Rattle.chain.specs.Chained.{Chained}
 use Rattle.tidy.specs.Tidied.{Tidyable, tidiedWords, Small, TidiedFrom}
-use Rattle.chain.proofs.Links.{header, part-is}
-use Rattle.chain.proofs.Replaced.{partOf, part-put, segment-length}
-use Rattle.tidy.proofs.Headers.{step, Framed, framed-self, framed-on, linked-kept, chain-kept, highest-kept, slots-kept}
+use Rattle.chain.proofs.Links.{part-is}
+use Rattle.walks.proofs.Words.{header, segment-length}
+use Rattle.chain.proofs.Replaced.{partOf, part-put}
+use Rattle.tidy.proofs.Headers.{Framed, framed-self, framed-on, linked-kept, chain-kept, highest-kept, slots-kept}
+use Rattle.walks.proofs.Linked.{visit}
 use Rattle.tidy.proofs.InPlace.{tidied-words, at-framed, at-entries, at-others, tidied-kept}
 
 -- the loop's invariant: the directory d₀ has become d, and left segments are ahead, the next of them s
@@ -46,10 +48,10 @@ small-on d s low whole m x l h = go (ℕ-discrete x s)
 
 module _ (n : ℕ) (d₀ d : List ℕ) (s : ℕ) (c : Chained d₀) (G : Going d₀ d (suc n) s) where
   low : 1 ≤ s
-  low = step n d s (G .links) .0
+  low = visit n d s (G .links) .low
 
   high : s ≤ highest d
-  high = step n d s (G .links) .1
+  high = visit n d s (G .links) .high
 
   whole : 512 * s ≤ length d
   whole = let h = high in let e = highest-kept d₀ d (G .framed) in let l = G .framed .long in let w = c .whole in omega arith
@@ -58,7 +60,7 @@ module _ (n : ℕ) (d₀ d : List ℕ) (s : ℕ) (c : Chained d₀) (G : Going d
   unfolding tidied chainFrom
   later =
       let f = at-framed d s low whole in
-      let rest = step n d s (G .links) .2 in
+      let rest = visit n d s (G .links) .rest in
       record {
         framed = framed-on d₀ d (tidiedAt d s) (G .framed) f;
         links = linked-kept d (tidiedAt d s) f n (linkOf (segment d s)) rest;

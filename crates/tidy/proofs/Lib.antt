@@ -1,4 +1,3 @@
-pub mod Flat
 pub mod Runs
 pub mod Tidying
 pub mod Anew

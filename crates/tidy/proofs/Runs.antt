@@ -15,13 +15,13 @@ use Rattle.meaning.specs.Words.{lengthWord, Entry, kind}
 use Rattle.meaning.specs.Requests.{flat}
 use Rattle.meaning.specs.Enter.{isArea}
 use Rattle.walks.specs.Runs.{RunSoFar, calm, absorb, flushed, tidyFrom}
-use Rattle.segment.proofs.Slots.{word, word0}
-use Rattle.copying.specs.Written.{Written}
+use Rattle.walks.proofs.Words.{word, word0}
+use Rattle.walks.proofs.Flat.{flat-split, flat-both}
+use Rattle.segment.specs.Written.{Written}
 use Rattle.tidy.specs.OpenRun.{runOf, sumOf, absorbAt, runAfter, letOut, leftOf, outOf, Behind, Placed, Finished}
 use Rattle.tidy.specs.declared.tidy.RunAt.{RunAt}
 use Rattle.tidy.specs.declared.tidy.RunAt.the-variants.{Calm, Within}
-use Rattle.copying.proofs.Writes.{none-written, one-written, both-written}
-use Rattle.tidy.proofs.Flat.{flat-split, flat-append}
+use Rattle.segment.proofs.Writes.{none-written, one-written, both-written}
 
 -- no run, or one whose zero sum is dropped, leaves nothing
 pub calm-left : (g b : List ℕ) (w q : ℕ) (run : RunAt) (x : Bool) → run ≡ Calm x → Written b q (leftOf g w run) b q
@@ -134,7 +134,7 @@ module _ (g : List ℕ) (w p : ℕ) (run : RunAt) (wide : 7 ≤ w) where
       rw (
         word0 g p w (omega arith),
         e,
-        flat-append (flushed (runOf g w run)) (take w (drop p g) ∷ []) [],
+        flat-both (flushed (runOf g w run)) (take w (drop p g) ∷ []) [],
         append-nil (take w (drop p g)),
       )
 
@@ -170,7 +170,7 @@ module _ (g : List ℕ) (w p : ℕ) (run : RunAt) (wide : 7 ≤ w) where
           let e = length-append (leftOf g w run) (take w (drop p g)) in
           let m : length (take w (drop p g)) ≡ w = length-take-le w (drop p g) (simp length-drop (omega arith)) in
           let i = left-bound g run w q p (omega arith) b in
-          rw (flat-append (flushed (runOf g w run)) (take w (drop p g) ∷ []) [], append-nil (take w (drop p g))) (omega arith)
+          rw (flat-both (flushed (runOf g w run)) (take w (drop p g) ∷ []) [], append-nil (take w (drop p g))) (omega arith)
 
   pub next-sum : sumOf (nextOf g p run) ≤ sumOf run + getD g (p + 4) 0
   unfolding runAfter

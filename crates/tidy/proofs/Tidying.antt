@@ -14,18 +14,18 @@ use Rattle.meaning.specs.Kinds.{endStatus, kindOf, isTentative, isEnd}
 use Rattle.meaning.specs.Words.{Entry, lengthWord, kind, blocks, slotCount, slots, upto, total}
 use Rattle.meaning.specs.Requests.{flat}
 use Rattle.meaning.specs.Enter.{isArea, joinTo, joined, dropZero, tidy, untidy}
-use Rattle.walks.specs.Runs.{calm, flushed, tidyFrom, Long}
-use Rattle.walks.proofs.Tidied.{tidy-from}
+use Rattle.walks.specs.Runs.{calm, flushed, tidyFrom}
+use Rattle.walks.proofs.Tidied.{segment-long, tidy-from}
 use Rattle.walks.proofs.Untidy.{tidy-fewer}
-use Rattle.segment.proofs.Slots.{word, mul-less}
-use Rattle.segment.proofs.Ahead.{ahead, ahead-next}
-use Rattle.copying.specs.Written.{Written}
+use Rattle.walks.proofs.Slots.{mul-less}
+use Rattle.walks.proofs.Flat.{Proper, entries-proper, flat-both, flat-length}
+use Rattle.segment.proofs.Ahead.{ahead, ahead-next, total-next}
+use Rattle.segment.specs.Written.{Written}
 use Rattle.tidy.specs.OpenRun.{runOf, sumOf, letOut, leftOf, outOf, Behind, Placed, Finished}
 use Rattle.tidy.specs.Tidied.{Tidyable}
 use Rattle.tidy.specs.declared.tidy.RunAt.{RunAt}
 use Rattle.tidy.specs.declared.tidy.RunAt.the-variants.{Calm}
-use Rattle.copying.proofs.Writes.{both-written}
-use Rattle.tidy.proofs.Flat.{Proper, entries-proper, flat-append, flat-length}
+use Rattle.segment.proofs.Writes.{both-written}
 use Rattle.tidy.proofs.Runs.{left-bound, placed-last, tidy-step, nextOf, next-is, next-behind, next-sum}
 
 -- the tidy of proper entries is proper
@@ -59,10 +59,6 @@ drop-proper w p (e ∷ es) h = go (isArea e && eqb (blocks e) 0 && not p) (drop-
 pub tidy-proper : (w : ℕ) (es : List Entry) → Proper w es → Proper w (tidy es)
 unfolding tidy
 tidy-proper w es h = drop-proper w false (joined es) (joined-proper w es h)
-
-pub proper-long : (w : ℕ) (es : List Entry) → 7 ≤ w → Proper w es → Long es
-proper-long w [] l h = tt
-proper-long w (e ∷ es) l h = (let n = h .0 in omega arith, proper-long w es l (h .2))
 
 -- the loop's invariant: left slots are ahead, the next read at word p and the next write at q; b is what is written to as it came
 pub record Tidying (g b : List ℕ) (w : ℕ) (out : List ℕ) (left p q : ℕ) (run : RunAt) : Type 0 where
@@ -109,12 +105,8 @@ module _ {g b : List ℕ} {w : ℕ} {out : List ℕ} {left p q : ℕ} {run : Run
 
   -- one slot more
   module _ (h : 0 < left) (e : isEnd (kindOf (getD g p 0)) ≡ false) where
-    sum-more : total (ahead g w left p) ≡ getD g (p + 4) 0 + total (ahead g w (left - 1) (p + w))
-    unfolding total
-    sum-more = rw (ahead-next g w left p h wide e, word g p w 4 (omega arith))
-
     pub sum-fits : sumOf run + getD g (p + 4) 0 ≤ 65535
-    sum-fits = let s = T .sums in let m = sum-more in omega arith
+    sum-fits = let s = T .sums in let m = total-next g w left p h wide e in omega arith
 
     -- what is still to come after the slot, before the words t
     abbrev rest : List ℕ → List ℕ
@@ -125,7 +117,7 @@ module _ {g b : List ℕ} {w : ℕ} {out : List ℕ} {left p q : ℕ} {run : Run
         rw (
           ahead-next g w left p h wide e,
           tidy-step (runOf g w run) (take w (drop p g)) (ahead g w (left - 1) (p + w)),
-          flat-append (letOut (runOf g w run) (take w (drop p g))) _ t,
+          flat-both (letOut (runOf g w run) (take w (drop p g))) _ t,
           next-is g w p run wide,
         )
 
@@ -140,7 +132,7 @@ module _ {g b : List ℕ} {w : ℕ} {out : List ℕ} {left p q : ℕ} {run : Run
           full = u .long ∙ T .full;
           room = omega arith;
           behind = rw (u .next) (next-behind g w p run wide q (omega arith) (T .behind) sum-fits);
-          sums = let s = T .sums in let k = sum-more in let i = next-sum g w p run wide in omega arith;
+          sums = let s = T .sums in let k = total-next g w left p h wide e in let i = next-sum g w p run wide in omega arith;
           count =
               let c : p + suc (length (ahead g w (left - 1) (p + w))) * w ≡ 5 + length (upto (slots w g)) * w =
               rw (ahead-next g w left p h wide e) at (T .count) in
@@ -163,7 +155,7 @@ module _ {g b : List ℕ} {w : ℕ} {out : List ℕ} {left p q : ℕ} {run : Run
     wrote = rw (none, tidies) at (T .place)
       where
         tidies : tidyFrom (calm false) (upto (slots w g)) ≡ tidy (upto (slots w g))
-        tidies = tidy-from (upto (slots w g)) (proper-long w (upto (slots w g)) wide (entries-proper w g (y .whole)))
+        tidies = tidy-from (upto (slots w g)) (segment-long w g wide (y .whole))
 
     pub last-place : Placed g out w 512 q run
     last-place = placed-last g out w p q run standing
@@ -182,4 +174,4 @@ module _ {g b : List ℕ} {w : ℕ} {out : List ℕ} {left p q : ℕ} {run : Run
     ends {a} f = rw (← wrote, ← tidies) (T .same (endStatus ∷ []) a _ (rw none f))
       where
         tidies : tidyFrom (calm false) (upto (slots w g)) ≡ tidy (upto (slots w g))
-        tidies = tidy-from (upto (slots w g)) (proper-long w (upto (slots w g)) wide (entries-proper w g (y .whole)))
+        tidies = tidy-from (upto (slots w g)) (segment-long w g wide (y .whole))

@@ -9,7 +9,7 @@ use Rattle.meaning.specs.Words.{Entry}
 use Rattle.meaning.specs.Requests.{flat}
 use Rattle.meaning.specs.Enter.{isArea}
 use Rattle.walks.specs.Runs.{RunSoFar, calm, within, flushed}
-use Rattle.copying.specs.Written.{Written}
+use Rattle.segment.specs.Written.{Written}
 use Rattle.tidy.specs.declared.tidy.RunAt.{RunAt}
 use Rattle.tidy.specs.declared.tidy.RunAt.the-variants.{Calm, Within}
 

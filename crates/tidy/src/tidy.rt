@@ -1,9 +1,9 @@
-// Enter's first step: in each open segment a run of neighbouring empty entries becomes its first with the summed length, and a
-// zero sum is dropped unless a tentative entry stands before it. In a segment that is untidy the entries are met once, from left to
-// right, and written as they come out; `place` is where the next one goes, never ahead of `word`, where the next one is read.
+// Enter's first step: empty entries that stand side by side become one, and one without blocks goes, if no tentative entry needs it.
+// In a segment that is untidy the entries are met once, from left to right, and written as they come out; `place` is where the next
+// one goes, never ahead of `word`, where the next one is read.
 use crate::untidy::is_untidy;
-use copying::copy_words;
 use meaning::END;
+use segment::copying::copy_words;
 use segment::kinds;
 ghost use mathlib.Core.Path.{_≡_};
 ghost use mathlib.Core.Bool.{true};
@@ -13,7 +13,7 @@ ghost use Rattle.meaning.specs.Words.{lengthWord, slots, upto};
 ghost use Rattle.meaning.specs.Enter.{tidy, untidy};
 ghost use Rattle.walks.specs.Runs.{flushed};
 ghost use Rattle.chain.specs.Chained.{Chained};
-ghost use Rattle.copying.specs.Written.{Written};
+ghost use Rattle.segment.specs.Written.{Written};
 ghost use Rattle.tidy.specs.OpenRun.{runOf, sumOf, runAfter, leftOf, outOf, Placed, Finished};
 ghost use Rattle.tidy.specs.Tidied.{Tidyable, tidiedWords, Small, TidiedFrom};
 

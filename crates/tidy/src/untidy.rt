@@ -8,8 +8,8 @@ ghost use Rattle.meaning.specs.Words.{slots, upto};
 ghost use Rattle.meaning.specs.Enter.{untidy};
 ghost use Rattle.tidy.specs.Changes.{changes};
 
-// Whether the tidy changes an entry of this status and length: an empty one directly after another joins its run, and one of length 0
-// is dropped unless a tentative entry stands before it. `before` is the status of the slot before, or 0.
+// Whether the tidy changes an entry of this status and length: an empty one directly after another joins it, and one of length 0
+// goes if no tentative entry needs it. `before` is the status of the slot before, or 0.
 fn is_changed(before: u16, status: u16, size: u16) -> bool
     ensures { λ r. ⌜ r ≡ changes (kindOf before) (kindOf status) size ⌝ }
 {

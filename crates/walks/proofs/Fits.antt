@@ -13,7 +13,7 @@ use borrow.Author.Tests.{le-leb, lt-leb, not-true}
 use Rattle.bools.proofs.Bools.{either-side}
 use Rattle.meaning.specs.Sound.{any}
 use Rattle.meaning.specs.Answers.{isNone}
-use Rattle.meaning.specs.Enter.{Size, longest, default, wrong, exact, Area, longestOf, wanted, atLeast, longEnough, firstFit}
+use Rattle.meaning.specs.Enter.{Size, longest, default, wrong, exact, Area, longestOf, wanted, atLeast, longEnough, firstFit, costAfter}
 use Rattle.walks.proofs.Topped.{second-le}
 
 pub fits-there : (n : ℕ) (xs : List Area) → longEnough n xs ≡ not (isNone (firstFit n xs))
@@ -58,3 +58,14 @@ pub wanted-fits : (size : Size) (xs : List Area) → longEnough (atLeast size) x
 wanted-fits size xs h =
     let n = wanted size (sizes xs) in
     some-is (firstFit n xs) (not-true (isNone (firstFit n xs)) (sym (fits-there n xs) ∙ wanted-there size xs h))
+
+-- a cost is 1 or 2
+pub cost-some : (p : Bool) → 1 ≤ costAfter p
+unfolding costAfter
+cost-some true = omega arith
+cost-some false = omega arith
+
+pub cost-small : (p : Bool) → costAfter p ≤ 2
+unfolding costAfter
+cost-small true = omega arith
+cost-small false = omega arith

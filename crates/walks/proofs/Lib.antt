@@ -8,3 +8,11 @@ pub mod Told
 pub mod Keyed
 pub mod Fits
 pub mod Tidied
+pub mod Alls
+pub mod Words
+pub mod Slots
+pub mod Flat
+pub mod Unbroken
+pub mod Filled
+pub mod Numbers
+pub mod Outcomes

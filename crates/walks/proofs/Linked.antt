@@ -1,7 +1,7 @@
 -- Rule 3 as code walks it: from segment 1, H segments in 1..H, each with segment 1's total and extra bytes, and then 0. The way
 -- left to 0 has one length at each segment, so none comes twice. How often each of 1..H stands in a list sums up to how many of its
 -- elements lie in 1..H: so H visits, none twice, are each of 1..H once exactly when all lie in 1..H. Assumes nothing.
-use Prim.Native.Nat.{ℕ, zero, suc, _+_, _≤_, _<_}
+use Prim.Native.Nat.{ℕ, zero, suc, _+_, _*_, _≤_, _<_}
 use native.Mathlib.Nat.{eq-or-lt-of-le, le-of-suc-le-suc}
 use native.Mathlib.Decide.{ℕ-discrete}
 use native.Mathlib.Omega.{arith}
@@ -11,26 +11,39 @@ use mathlib.Core.Logic.{⊎-elim}
 use mathlib.Core.List.{List, [], _∷_}
 use lib.ListN.{length}
 use lib.Dec.{eqb, leb, ltb, leb·suc-suc}
-use borrow.Author.Tests.{eqb-true, leb-true, leb-false, eq-eqb, ne-eqb, lt-ltb, le-ltb, ltb-false}
-use Rattle.bools.proofs.Bools.{both}
+use borrow.Author.Tests.{eqb-true, leb-true, leb-false, eq-eqb, ne-eqb, lt-ltb, le-ltb, ltb-false, not-false}
+use Rattle.bools.proofs.Bools.{both, neither}
 use Rattle.meaning.specs.Words.{segment, totalOf, linkOf, extraBytesOf, highest, chainFrom, reached, chain}
 use Rattle.meaning.specs.Sound.{any, times, eachOnce, differs, bad3}
 use Rattle.walks.specs.Links.{linked}
+use Rattle.walks.specs.Lists.{All}
 use Rattle.walks.proofs.Lists.{next, chain-length}
 
-ends : (a b t x r : Bool) → a && b && t && x && r ≡ true → (a ≡ true) × (r ≡ true)
-ends a b t x r h =
-    let p = both (a && b && t && x) r h in
-    (both a b (both (a && b) t (both (a && b && t) x (p .0) .0) .0) .0, p .1)
-
 -- what a walk tells of its first segment, and of one that is no more
-step : (n : ℕ) (d : List ℕ) (s : ℕ) → linked (suc n) d s ≡ true → (1 ≤ s) × (linked n d (next d s) ≡ true)
+pub record Visit (n : ℕ) (d : List ℕ) (s : ℕ) : Type 0 where
+  pub low : 1 ≤ s
+  pub high : s ≤ highest d
+  pub total : totalOf (segment d s) ≡ totalOf d
+  pub extra : extraBytesOf (segment d s) ≡ extraBytesOf d
+  pub rest : linked n d (next d s) ≡ true
+
+pub visit : (n : ℕ) (d : List ℕ) (s : ℕ) → linked (suc n) d s ≡ true → Visit n d s
 unfolding linked
-step n d s h =
+visit n d s h =
+    let l = leb 1 s && leb s (highest d) in
     let t = eqb (totalOf (segment d s)) (totalOf d) in
     let x = eqb (extraBytesOf (segment d s)) (extraBytesOf d) in
-    let p = ends (leb 1 s) (leb s (highest d)) t x (linked n d (next d s)) h in
-    (leb-true 1 s (p .0), p .1)
+    let p = both (l && t && x) (linked n d (next d s)) h in
+    let q = both (l && t) x (p .0) in
+    let r = both l t (q .0) in
+    let b = both (leb 1 s) (leb s (highest d)) (r .0) in
+    record {
+      low = leb-true 1 s (b .0);
+      high = leb-true s (highest d) (b .1);
+      total = eqb-true (totalOf (segment d s)) (totalOf d) (r .1);
+      extra = eqb-true (extraBytesOf (segment d s)) (extraBytesOf d) (q .1);
+      rest = p .1;
+    }
 
 at-end : (d : List ℕ) (s : ℕ) → linked zero d s ≡ true → s ≡ 0
 unfolding linked
@@ -39,9 +52,9 @@ at-end d s h = eqb-true s 0 h
 -- how many segments are left is known from the segment
 pub left-is : (n m : ℕ) (d : List ℕ) (s : ℕ) → linked n d s ≡ true → linked m d s ≡ true → n ≡ m
 left-is zero zero d s h k = refl
-left-is zero (suc m) d s h k = absurd (omega (arith, at-end d s h, step m d s k .0))
-left-is (suc n) zero d s h k = absurd (omega (arith, at-end d s k, step n d s h .0))
-left-is (suc n) (suc m) d s h k = ap suc (left-is n m d (next d s) (step n d s h .1) (step m d s k .1))
+left-is zero (suc m) d s h k = absurd (omega (arith, at-end d s h, visit m d s k .low))
+left-is (suc n) zero d s h k = absurd (omega (arith, at-end d s k, visit n d s h .low))
+left-is (suc n) (suc m) d s h k = ap suc (left-is n m d (next d s) (visit n d s h .rest) (visit m d s k .rest))
 
 module _ (d : List ℕ) (k : ℕ) where
   -- where fewer segments are left than from k on, k does not come
@@ -50,16 +63,16 @@ module _ (d : List ℕ) (k : ℕ) where
   away m w zero s l h = refl
   away m w (suc n) s l h =
       rw (ne-eqb s k (λ q. omega (arith, left-is (suc n) m d k (rw q at h) w)))
-      (away m w n (next d s) (omega arith) (step n d s h .1))
+      (away m w n (next d s) (omega arith) (visit n d s h .rest))
 
   -- no segment comes twice
   pub once : (n s : ℕ) → linked n d s ≡ true → times k (chainFrom n d s) ≤ 1
   unfolding times chainFrom
   once zero s h = omega arith
-  once (suc n) s h = go (ℕ-discrete s k) (once n (next d s) (step n d s h .1))
+  once (suc n) s h = go (ℕ-discrete s k) (once n (next d s) (visit n d s h .rest))
     where
       go : Dec (s ≡ k) → times k (chainFrom n d (next d s)) ≤ 1 → times k (s ∷ chainFrom n d (next d s)) ≤ 1
-      go (yes q) f = rw (eq-eqb s k q, away (suc n) (rw q at h) n (next d s) (omega arith) (step n d s h .1)) (omega arith)
+      go (yes q) f = rw (eq-eqb s k q, away (suc n) (rw q at h) n (next d s) (omega arith) (visit n d s h .rest)) (omega arith)
       go (no q) f = rw (ne-eqb s k q) f
 
 -- how many elements of a list lie in 1..n: the sum over 1..n of how often each stands in it
@@ -181,3 +194,48 @@ bad3-walk d =
     agree (eachOnce n c) (eqb (reached n d 1) 0) (any (differs d) c) (any (outside n) c) (linked n d 1) (linked-is n d 1)
     (λ h. counted ∙ le-ltb (inside n c) n (omega (arith, each-inside n c h)))
     (λ h k. inside-each c (λ j. once d j n 1 h) n (ltb-false (inside n c) n (sym counted ∙ k)))
+
+-- each of 1..H stands in the chain once
+pub each-times : (n : ℕ) (xs : List ℕ) → eachOnce n xs ≡ true → (k : ℕ) → 1 ≤ k → k ≤ n → times k xs ≡ 1
+unfolding eachOnce
+each-times zero xs h k a b = absurd (omega arith)
+each-times (suc n) xs h k a b =
+    let p = both (eqb (times (suc n) xs) 1) (eachOnce n xs) h in
+    ⊎-elim (λ e. rw e (eqb-true (times (suc n) xs) 1 (p .0))) (λ l. each-times n xs (p .1) k a (le-of-suc-le-suc l))
+    (eq-or-lt-of-le b)
+
+pub used-once : (d : List ℕ) → linked (highest d) d 1 ≡ true → (s : ℕ) → 1 ≤ s → s ≤ highest d → times s (chain d) ≡ 1
+unfolding bad3
+used-once d c s l h =
+    let b : bad3 d ≡ false = bad3-walk d ∙ rw c in
+    let e = eachOnce (highest d) (chain d) in
+    let z = eqb (reached (highest d) d 1) 0 in
+    let o = not-false (e && z) (neither (not (e && z)) (any (differs d) (chain d)) b .0) in
+    each-times (highest d) (chain d) (both e z o .0) s l h
+
+-- and no other stands there
+beyond : (n : ℕ) (d : List ℕ) (s x : ℕ) → linked n d s ≡ true → highest d < x → times x (chainFrom n d s) ≡ 0
+unfolding times chainFrom
+beyond zero d s x h l = refl
+beyond (suc n) d s x h l =
+    let v = visit n d s h in
+    rw (ne-eqb s x (λ e. omega (arith, v .high))) (beyond n d (next d s) x (v .rest) l)
+
+pub unused-never : (d : List ℕ) → linked (highest d) d 1 ≡ true → (s : ℕ) → highest d < s → times s (chain d) ≡ 0
+unfolding chain
+unused-never d c s l = beyond (highest d) d 1 s c l
+
+-- a segment that lies in a slice of n words; and where H segments do, each of the chain does
+abbrev pub Inside : ℕ → ℕ → Type 0
+Inside n s = (1 ≤ s) × (512 * s ≤ n)
+
+inside-from : (d : List ℕ) → 512 * highest d ≤ length d → (n s : ℕ) → linked n d s ≡ true → All (Inside (length d)) (chainFrom n d s)
+unfolding chainFrom
+inside-from d l zero s h = tt
+inside-from d l (suc n) s h =
+    let v = visit n d s h in
+    ((v .low, omega (arith, v .high)), inside-from d l n (next d s) (v .rest))
+
+pub chain-inside : (d : List ℕ) → 512 * highest d ≤ length d → linked (highest d) d 1 ≡ true → All (Inside (length d)) (chain d)
+unfolding chain
+chain-inside d l h = inside-from d l (highest d) 1 h

@@ -1,6 +1,6 @@
 -- Lists, place by place. The i-th segment of the chain is the one that i links reach; and no element of a list passes a test
 -- exactly when the test fails at each place, of a chain at each visit. Assumes nothing.
-use Prim.Native.Nat.{ℕ, zero, suc, _<_, suc-le-suc}
+use Prim.Native.Nat.{ℕ, zero, suc, _-_, _≤_, _<_, suc-le-suc}
 use native.Mathlib.Nat.{le-of-suc-le-suc, not-suc-le-zero}
 use native.Mathlib.Omega.{arith}
 use mathlib.Core.Path.{_≡_, refl, ap}
@@ -14,6 +14,19 @@ use Rattle.bools.proofs.Bools.{neither}
 -- the segment that segment s links to
 abbrev pub next : List ℕ → ℕ → ℕ
 next d s = linkOf (segment d s)
+
+-- the chain as code follows it, n segments of it
+pub chain-step : (n : ℕ) (d : List ℕ) (s : ℕ) → 0 < n → chainFrom n d s ≡ s ∷ chainFrom (n - 1) d (next d s)
+unfolding chainFrom
+chain-step zero d s h = absurd (omega arith)
+chain-step (suc n) d s h =
+    let e : suc n - 1 ≡ n = omega arith in
+    rw e
+
+pub chain-over : (n : ℕ) (d : List ℕ) (s : ℕ) → n ≤ 0 → chainFrom n d s ≡ []
+unfolding chainFrom
+chain-over zero d s h = refl
+chain-over (suc n) d s h = absurd (omega arith)
 
 pub chain-length : (n : ℕ) (d : List ℕ) (s : ℕ) → length (chainFrom n d s) ≡ n
 unfolding chainFrom

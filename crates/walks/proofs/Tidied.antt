@@ -1,20 +1,22 @@
 -- Enter's tidy as a machine does it. By induction on the entries that are left, the machine makes of them what dropping zeros makes
 -- of them joined, with the open run joined on before: an empty entry joins the run, any other ends it. Entries must have a length
 -- word, as those of a segment in the directory have; what comes out has one too, the same total, and no more entries.
-use Prim.Native.Nat.{ℕ, zero, suc, _+_, _*_, _/_, _≤_, _<_}
-use native.Mathlib.Nat.{add-assoc, suc-mul, div-mul-le-self}
+use Prim.Native.Nat.{ℕ, _+_, _*_, _≤_, _<_}
+use native.Mathlib.Nat.{add-assoc}
 use native.Mathlib.Omega.{arith}
 use mathlib.Core.Path.{_≡_, refl, ap, _∙_}
 use mathlib.Core.Bool.{Bool, true, false, cond, _&&_, not}
 use mathlib.Core.List.{List, [], _∷_, _++_}
-use lib.ListN.{length, drop, set, length-take, length-drop, length-set}
+use lib.ListN.{length, set, length-set}
 use lib.Seq.{getD-set-same, getD-set-other, set-getD, set-set}
 use lib.Dec.{eqb}
 use borrow.Author.Tests.{eqb-true}
 use Rattle.bools.proofs.Bools.{both}
-use Rattle.meaning.specs.Kinds.{isTentative, isEnd}
-use Rattle.meaning.specs.Words.{Entry, lengthWord, kind, blocks, slotWords, segment, chunks, slots, upto, entries, total}
+use Rattle.meaning.specs.Kinds.{isTentative}
+use Rattle.meaning.specs.Words.{Entry, lengthWord, kind, blocks, slotWords, segment, slots, upto, entries, total}
 use Rattle.meaning.specs.Enter.{isArea, joinTo, joined, dropZero, tidy}
+use Rattle.walks.proofs.Words.{segment-length}
+use Rattle.walks.proofs.Flat.{Wide, proper-wide, entries-proper}
 use Rattle.walks.specs.Runs.{RunSoFar, calm, within, absorb, flushed, tidyFrom, Long}
 
 -- an entry whose length is set
@@ -25,7 +27,7 @@ pub blocks-set : (e : Entry) (n : ℕ) → lengthWord < length e → blocks (set
 blocks-set e n l = getD-set-same e lengthWord n 0 l
 
 -- the entry of an open run is empty and long
-abbrev Open : RunSoFar → Type 0
+abbrev pub Open : RunSoFar → Type 0
 Open (calm p) = Unit
 Open (within e t p) = (isArea e ≡ true) × (lengthWord < length e)
 
@@ -53,7 +55,7 @@ join-run e f t (g ∷ gs) a b h k = go (isArea g) refl
     go true q = simp (kind-set, a, b, q, blocks-set, set-set, add-assoc)
     go false q = simp (kind-set, a, b, q, blocks-set, set-set)
 
-absorb-open : (r : RunSoFar) (f : Entry) → Open r → isArea f ≡ true → lengthWord < length f → Open (absorb r f)
+pub absorb-open : (r : RunSoFar) (f : Entry) → Open r → isArea f ≡ true → lengthWord < length f → Open (absorb r f)
 absorb-open (calm p) f o a h = (a, h)
 absorb-open (within e t p) f o a h = o
 
@@ -162,30 +164,14 @@ tidy-kept es h =
 pub tidy-total : (es : List Entry) → Long es → total (tidy es) ≡ total es
 tidy-total es h = tidy-kept es h .sum
 
-pub tidy-long : (es : List Entry) → Long es → Long (tidy es)
-tidy-long es h = tidy-kept es h .long
+-- entries of w words are long enough, and so are those of a segment, and of one that lies in the directory
+pub wide-long : (w : ℕ) → 7 ≤ w → (es : List Entry) → Wide w es → Long es
+wide-long w h [] a = tt
+wide-long w h (e ∷ es) a = (omega (arith, a .0), wide-long w h es (a .1))
 
--- slots that lie in a list are as long as they should be, and so are those before the marker
-chunks-long : (n w : ℕ) (l : List ℕ) → lengthWord < w → n * w ≤ length l → Long (chunks n w l)
-unfolding chunks
-chunks-long zero w l h k = tt
-chunks-long (suc n) w l h k =
-    let m : n * w + w ≤ length l = rw suc-mul at k in
-    (simp length-take (omega arith), chunks-long n w (drop w l) h (simp length-drop (omega arith)))
-
-upto-long : (es : List Entry) → Long es → Long (upto es)
-unfolding upto
-upto-long [] h = tt
-upto-long (e ∷ es) h = go (isEnd (kind e)) (upto-long es (h .1))
-  where
-    go : (x : Bool) → Long (upto es) → Long (cond x [] (e ∷ upto es))
-    go true k = tt
-    go false k = (h .0, k)
+pub segment-long : (w : ℕ) (g : List ℕ) → 7 ≤ w → length g ≡ 512 → Long (upto (slots w g))
+segment-long w g h k = wide-long w h (upto (slots w g)) (proper-wide w (upto (slots w g)) (entries-proper w g k))
 
 pub entries-long : (d : List ℕ) (s : ℕ) → 1 ≤ s → 512 * s ≤ length d → Long (entries d s)
-unfolding entries slots segment
-entries-long d s a b =
-    let w = slotWords d in
-    upto-long (slots w (segment d s))
-    (chunks-long (507 / w) w (drop 5 (segment d s)) (omega arith)
-    (simp (length-drop, length-take) (omega (arith, div-mul-le-self 507 w))))
+unfolding entries
+entries-long d s a b = segment-long (slotWords d) (segment d s) (omega arith) (segment-length d s a b)

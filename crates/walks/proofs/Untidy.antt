@@ -1,7 +1,7 @@
 -- The tidy makes the entries fewer exactly where the meaning calls them untidy, and keeps them where it does not. Joining keeps entries
 -- without a run longer than one, and makes one fewer of any such run; then dropping keeps those without a zero sum, and takes one away
 -- for each. So a machine may count the entries that come out, and a walk may look for a run or a zero instead.
-use Prim.Native.Nat.{ℕ, suc, _+_, _≤_, _<_}
+use Prim.Native.Nat.{suc, _+_, _≤_, _<_}
 use native.Mathlib.Omega.{arith}
 use mathlib.Core.Path.{_≡_, refl, ap}
 use mathlib.Core.Logic.{⊎-elim}
@@ -12,10 +12,9 @@ use lib.Dec.{eqb}
 use borrow.Author.Tests.{eqb-true, eq-eqb}
 use Rattle.bools.proofs.Bools.{both, either, neither, never}
 use Rattle.meaning.specs.Kinds.{isTentative}
-use Rattle.meaning.specs.Words.{Entry, lengthWord, kind, blocks, entries}
+use Rattle.meaning.specs.Words.{Entry, lengthWord, kind, blocks}
 use Rattle.meaning.specs.Sound.{beginsEmpty}
-use Rattle.meaning.specs.Requests.{render}
-use Rattle.meaning.specs.Enter.{isArea, joinTo, joined, dropZero, tidy, hasRun, hasZero, untidy, withSegment, headerOf, tidiedAt}
+use Rattle.meaning.specs.Enter.{isArea, joinTo, joined, dropZero, tidy, hasRun, hasZero, untidy}
 use Rattle.walks.proofs.Tidied.{kind-set}
 
 -- neither step makes entries more
@@ -132,17 +131,3 @@ untidy-counted es = go (untidy es) refl
         never (eqb (length (tidy es)) (length es))
         (λ e. let k = eqb-true (length (tidy es)) (length es) e in absurd (omega (arith, tidy-fewer es q)))
     go false q = eq-eqb (length (tidy es)) (length es) (ap length (tidy-none es q))
-
--- and so the tidied segment goes by the count
-pub tidied-counted : (d : List ℕ) (s : ℕ)
-    → tidiedAt d s
-    ≡ cond (eqb (length (tidy (entries d s))) (length (entries d s))) d
-    (withSegment d s (render (headerOf d s) (tidy (entries d s))))
-unfolding tidiedAt
-tidied-counted d s = rw (untidy-counted (entries d s)) (go (untidy (entries d s)))
-  where
-    go : (x : Bool)
-        → cond x (withSegment d s (render (headerOf d s) (tidy (entries d s)))) d
-        ≡ cond (not x) d (withSegment d s (render (headerOf d s) (tidy (entries d s))))
-    go true = refl
-    go false = refl

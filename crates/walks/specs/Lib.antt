@@ -3,3 +3,4 @@ pub mod Links
 pub mod Scan
 pub mod Runs
 pub mod Top
+pub mod Lists

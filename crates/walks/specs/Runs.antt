@@ -19,7 +19,7 @@ abbrev pub absorb : RunSoFar → Entry → RunSoFar
 absorb (calm p) f = within f (blocks f) p
 absorb (within e t p) f = within e (t + blocks f) p
 
--- a run becomes its first entry with the summed length; a zero sum is dropped unless a tentative entry stands before it
+-- what is written for a run that has ended: its first entry with all its blocks, or nothing where it has none and is not needed
 abbrev pub flushed : RunSoFar → List Entry
 flushed (calm p) = []
 flushed (within e t p) = cond (eqb t 0 && not p) [] (set e lengthWord t ∷ [])

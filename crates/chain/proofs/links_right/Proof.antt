@@ -7,7 +7,8 @@ use borrow.Author.Tests.{le-leb, lt-leb, eq-eqb, ne-eqb}
 use Prim.Native.Nat.{_+_}
 use lib.ListN.{getD}
 use Rattle.walks.specs.Links.{linked}
-use Rattle.chain.proofs.Links.{base, linked-step, linked-end}
+use Rattle.chain.proofs.Links.{linked-step, linked-end}
+use Rattle.walks.proofs.Words.{base}
 use Rattle.chain.proofs.links_right.Statement.{statement}
 use Rattle.chain.proofs.links_right.Tie as tie
 

@@ -9,7 +9,8 @@ use Prim.Native.Nat.{_+_}
 use lib.ListN.{length-take, length-drop}
 use Rattle.segment.specs.declared.scan.Scan.the-variants.{Fault, Sum}
 use Rattle.segment.proofs.Scanning.{sum-bounded}
-use Rattle.chain.proofs.Links.{base, Next, next}
+use Rattle.chain.proofs.Links.{Next, next}
+use Rattle.walks.proofs.Words.{base}
 use Rattle.chain.proofs.Measuring.{Measuring, starts, turn, turned, scan-part}
 use Rattle.chain.proofs.measure.Statement.{statement}
 use Rattle.chain.proofs.measure.Tie as tie
@@ -23,7 +24,7 @@ abbrev μ-loop : tie.MeasureT-loop
 -- the segment at hand is one of 1..H
 here : (c : tie.In-loop Inv-loop μ-loop)
     → Next (c .before .loop .left) (now (c .before .before .before .before .before .args .d)) (c .before .loop .segment)
-here c = next _ _ _ (c .loop-test .taken) (c .before .loop .inv .links)
+here c = next _ _ _ (c .before .before .before .before .before .pre) (c .loop-test .taken) (c .before .loop .inv .links)
 
 shared-slice-read-width : tie.Need-shared-slice-read-width Inv-loop μ-loop
 shared-slice-read-width c = omega arith

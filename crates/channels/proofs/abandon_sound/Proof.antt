@@ -1,13 +1,19 @@
 -- `abandon_sound` meets its contract: the channel is tested, and then `empty_found` does the rest with the channel's key.
 use borrow.Author.Needs.{needs}
 use native.Mathlib.Omega.{arith}
-use mathlib.Core.Path.{refl, sym, _∙_}
+use mathlib.Core.Path.{_≡_, refl, sym, _∙_}
+use mathlib.Core.Bool.{true}
 use borrow.Author.Tests.{not-true, not-false}
 use denote.Ref.{now}
 use Rattle.meaning.specs.Answers.{refuse}
+use Rattle.meaning.specs.Requests.{goodChannel}
 use Rattle.channels.proofs.Tested.{channel-fits, abandon-bad, abandon-good}
 use Rattle.channels.proofs.abandon_sound.Statement.{statement}
 use Rattle.channels.proofs.abandon_sound.Tie as tie
+
+-- the channel is good where its test has passed
+channelled-at : (c : tie.Else1) → let a = c .before .before .before .args in goodChannel (a .job) (a .channel) ≡ true
+channelled-at c = sym (c .before .is-channel .ensures) ∙ not-false _ (c .if1 .left)
 
 is-channel-requires : tie.Need-is-channel-requires
 is-channel-requires c κs = search needs
@@ -24,12 +30,12 @@ returns c =
 
 mul-t9 : tie.Need-mul-t9
 mul-t9 c =
-    let l = channel-fits _ _ (sym (c .before .before .is-channel .ensures) ∙ not-false _ (c .before .if1 .left)) in
+    let l = channel-fits _ _ (channelled-at (c .before)) in
     omega arith
 
 add-t10 : tie.Need-add-t10
 add-t10 c =
-    let l = channel-fits _ _ (sym (c .before .before .is-channel .ensures) ∙ not-false _ (c .before .if1 .left)) in
+    let l = channel-fits _ _ (channelled-at (c .before)) in
     omega arith
 
 empty-found-requires : tie.Need-empty-found-requires
@@ -42,8 +48,7 @@ returns-2 : tie.Need-returns-2
 returns-2 c =
     let i = c .before .before .before .before in
     let s = i .before .before .before in
-    let g = sym (i .before .is-channel .ensures) ∙ not-false _ (i .if1 .left) in
-    rw (abandon-good (s .args .v) (now (s .args .d)) (s .pre) (s .args .job) (s .args .channel) g) (c .before .before .empty-found .ensures)
+    rw (abandon-good (s .args .v) (now (s .args .d)) (s .pre) (s .args .job) (s .args .channel) (channelled-at i)) (c .before .before .empty-found .ensures)
 
 pub abandon-sound-spec : {M : Type 1} → statement M
 abandon-sound-spec =

@@ -10,69 +10,67 @@ use lib.ListN.{length, getD}
 use denote.Ref.{now}
 use Rattle.meaning.specs.Words.{slotWords, lengthWord}
 use Rattle.meaning.specs.Answers.{success, write}
+use Rattle.chain.specs.Chained.{Chained}
 use Rattle.chain.proofs.Chains.{fault-chained}
 use Rattle.channels.specs.Closing.{closedOn, replacingAt}
-use Rattle.channels.proofs.Closes.{ready, old-key, closed-words, inside-less}
+use Rattle.channels.proofs.Closes.{Ready, ready, old-key, closed-words, inside-less}
 use Rattle.channels.proofs.close_at.Statement.{statement}
 use Rattle.channels.proofs.close_at.Tie as tie
 
+-- the place and the row behind it, and the chain, as the start knows them
+ready-at : (s : tie.Start) → Ready (now (s .args .d)) (s .args .place) (s .pre .1 .row)
+ready-at s = ready (s .args .v) (now (s .args .d)) (s .pre .0) (s .args .word) (s .args .place) (s .pre .1)
+
+chained-at : (s : tie.Start) → Chained (now (s .args .d))
+chained-at s = fault-chained (s .args .v) (now (s .args .d)) (s .pre .0)
+
+-- where the old file was looked for
+abbrev start : tie.After-find-entry → tie.Start
+start f = f .before .before .before .before .before .before
+
 slice-read-width : tie.Need-slice-read-width
 slice-read-width c =
-    let s = c .before .before in
-    let q = ready (s .args .v) (now (s .args .d)) (s .pre .0) (s .args .word) (s .args .place) (s .pre .1) in
-    let few = (fault-chained (s .args .v) (now (s .args .d)) (s .pre .0)) .few in
-    omega (arith)
+    let k = chained-at (c .before .before) in
+    omega arith
 
 cast-width : tie.Need-cast-width
-cast-width c =
-    let s = c .before .before in
-    let q = ready (s .args .v) (now (s .args .d)) (s .pre .0) (s .args .word) (s .args .place) (s .pre .1) in
-    let few = (fault-chained (s .args .v) (now (s .args .d)) (s .pre .0)) .few in
-    omega (arith, c .slice-known2 .given 3)
+cast-width c = omega (arith, c .slice-known2 .given 3)
 
 add-width : tie.Need-add-width
-add-width c =
-    let s = c .before .before in
-    let q = ready (s .args .v) (now (s .args .d)) (s .pre .0) (s .args .word) (s .args .place) (s .pre .1) in
-    let few = (fault-chained (s .args .v) (now (s .args .d)) (s .pre .0)) .few in
-    omega (arith)
+add-width c = omega (arith, c .slice-known2 .given 3)
 
 add-next : tie.Need-add-next
 add-next c =
-    let s = c .before .before in
-    let q = ready (s .args .v) (now (s .args .d)) (s .pre .0) (s .args .word) (s .args .place) (s .pre .1) in
-    let few = (fault-chained (s .args .v) (now (s .args .d)) (s .pre .0)) .few in
-    omega (arith)
+    let q = ready-at (c .before .before) in
+    let k = chained-at (c .before .before) in
+    omega arith
 
 name-at-requires : tie.Need-name-at-requires
 name-at-requires c κs =
-    let s = c .before .before .before in
-    let q = ready (s .args .v) (now (s .args .d)) (s .pre .0) (s .args .word) (s .args .place) (s .pre .1) in
+    let q = ready-at (c .before .before .before) in
     (omega arith, omega arith)
 
 find-entry-requires : tie.Need-find-entry-requires
-find-entry-requires c κs =
-    let s = c .before .before .before .before .before in
-    fault-chained (s .args .v) (now (s .args .d)) (s .pre .0)
+find-entry-requires c κs = chained-at (c .before .before .before .before .before)
 
 make-permanent-requires : tie.Need-make-permanent-requires
 make-permanent-requires c κs =
-    let s = c .before .before .before .before .before .before .before in
-    let q = ready (s .args .v) (now (s .args .d)) (s .pre .0) (s .args .word) (s .args .place) (s .pre .1) in
-    let few = (fault-chained (s .args .v) (now (s .args .d)) (s .pre .0)) .few in
+    let s = start (c .before) in
+    let q = ready-at s in
+    let k = chained-at s in
     let b : getD (now (s .args .d)) (s .args .place .at + lengthWord) 0 ≡ s .args .place .length = q .word 4 (omega arith) ∙ q .length′ in
     (omega arith, omega arith, omega arith, omega arith)
 
 empty-old-requires : tie.Need-empty-old-requires
 empty-old-requires c κs =
-    let f = c .before .before .before .before .before in
-    let d = now (f .before .before .before .before .before .before .args .d) in
-    inside-less (f .find-entry .result) (slotWords d) (length d) _ (omega arith) (sym (c .before .before .before .make-permanent .kept .0)) (f .find-entry .ensures .inside)
+    let m = c .before .before .before in
+    let f = m .before .before in
+    let d = now (start f .args .d) in
+    inside-less (f .find-entry .result) (slotWords d) (length d) _ (omega arith) (sym (m .make-permanent .kept .0)) (f .find-entry .ensures .inside)
 
 cast-succeeded : tie.Need-cast-succeeded
 cast-succeeded c =
-    let s = c .before .before .before .before .before .before .before .before .before .before .before .before .before .before .before in
-    let q = ready (s .args .v) (now (s .args .d)) (s .pre .0) (s .args .word) (s .args .place) (s .pre .1) in
+    let q = ready-at (start (c .before .before .before .before .before .before .before .before .before)) in
     omega arith
 
 succeeded-requires : tie.Need-succeeded-requires
@@ -84,16 +82,19 @@ same-length c = search needs
 returns : tie.Need-returns
 unfolding closedOn success
 returns c =
-    let f = c .before .before .before .before .before .before .before .before .before .before in
+    let e = c .before .before .before .before in
+    let m = e .before .before .before .before in
+    let f = m .before .before in
     let s = f .before .before .before .before .before .before in
-    let d = now (s .args .d) in
-    let q = ready (s .args .v) (now (s .args .d)) (s .pre .0) (s .args .word) (s .args .place) (s .pre .1) in
+    let a = s .args in
+    let d = now (a .d) in
     let o = s .pre .1 in
-    let k = old-key d (s .args .place) (o .row) q (slotWords d) (omega arith) _ _ (f .before .before .name-at .ensures) (f .find-entry .ensures .is) in
-    let w = ap (λ (z : List ℕ). write z (replacingAt (f .find-entry .result))) (c .before .before .before .before .before .before .before .before .make-permanent .ensures) in
+    let q = ready-at s in
+    let k = old-key d (a .place) (o .row) q (slotWords d) (omega arith) _ _ (f .before .before .name-at .ensures) (f .find-entry .ensures .is) in
+    let w = ap (λ (z : List ℕ). write z (replacingAt (f .find-entry .result))) (m .make-permanent .ensures) in
     record {
       answer = rw (o .is, q .first, q .date) (c .succeeded .ensures);
-      words = rw (o .is) (c .before .before .before .before .empty-old .ensures ∙ w ∙ closed-words d (s .args .place) (o .row) (s .args .size) _ q k);
+      words = rw (o .is) (e .empty-old .ensures ∙ w ∙ closed-words d (a .place) (o .row) (a .size) _ q k);
     }
 
 pub close-at-spec : {M : Type 1} → statement M

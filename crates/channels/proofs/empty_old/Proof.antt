@@ -2,7 +2,7 @@
 use borrow.Author.Needs.{needs}
 use native.Mathlib.Omega.{arith}
 use Rattle.meaning.specs.Answers.{write}
-use Rattle.find.proofs.Behind.{place-inside}
+use Rattle.segment.proofs.Searching.{place-inside}
 use Rattle.channels.proofs.empty_old.Statement.{statement}
 use Rattle.channels.proofs.empty_old.Tie as tie
 

@@ -7,7 +7,7 @@ use borrow.Author.Needs.{needs}
 use denote.Ref.{now}
 use Prim.Native.Nat.{_+_}
 use lib.ListN.{length-take, length-drop}
-use Rattle.chain.proofs.Links.{base}
+use Rattle.walks.proofs.Words.{base}
 use Rattle.cursor.specs.Cursor.{onEntry}
 use Rattle.cursor.proofs.Stepping.{segment-is, standing, entry-slot, entry-part, row-part, Stepping, steps}
 use Rattle.cursor.proofs.Stepping.{at-entry, at-last, at-none, at-link, at-no-slot}

@@ -21,7 +21,10 @@ date-word-requires c κs = sym (c .before .in-calendar .ensures) ∙ not-false _
 
 returns-2 : tie.Need-returns-2
 unfolding namesDay dayField monthField
-returns-2 c = rw (← c .before .before .before .year-named .ensures, sym (c .before .before .in-calendar .ensures) ∙ not-false _ (c .before .if1 .left), c .date-word .ensures)
+returns-2 c =
+    let e = c .before in
+    let day = sym (e .before .in-calendar .ensures) ∙ not-false _ (e .if1 .left) in
+    rw (← e .before .before .year-named .ensures, day, c .date-word .ensures)
 
 pub names-day-spec : {M : Type 1} → statement M
 names-day-spec =

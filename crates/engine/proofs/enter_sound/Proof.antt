@@ -11,7 +11,7 @@ use mir.ValLaws.{toZ-ofZ}
 use Rattle.meaning.specs.Answers.{refuse}
 use Rattle.meaning.specs.Requests.{legal, goodChannel, wordOf}
 use Rattle.meaning.specs.Enter.{Size, sizeOf, goodSize}
-use Rattle.size.specs.Asks.{sizeBy}
+use Rattle.choice.specs.Asks.{sizeBy}
 use Rattle.chain.proofs.Chains.{fault-chained}
 use Rattle.find.proofs.Behind.{open-found, open-none}
 use Rattle.channels.proofs.Tested.{channel-fits}
@@ -37,25 +37,24 @@ call s = record {
 named-at : (c : tie.After-is-channel) → legal (c .before .before .before .before .args .name) ≡ true
 named-at c = sym (c .before .before .is-legal .ensures) ∙ not-false _ (c .before .if1 .left)
 
-channelled-at : (c : tie.After-size-of)
-    → let s = c .before .before .before .before .before .before in goodChannel (s .args .job) (s .args .channel) ≡ true
-channelled-at c = sym (c .before .before .is-channel .ensures) ∙ not-false _ (c .before .if2 .left)
+abbrev begun : tie.After-size-of → tie.Start
+begun z = z .before .before .before .before .before .before
 
-size-back : (c : tie.After-size-of)
-    → sizeBy (c .size-of .result) ≡ sizeOf (c .before .before .before .before .before .before .args .size)
-size-back c =
-    let s = c .before .before .before .before .before .before in
-    c .size-of .ensures ∙ ap sizeOf (toZ-ofZ w32 (s .args .size) (s .fits .size))
+channelled-at : (z : tie.After-size-of) → goodChannel (begun z .args .job) (begun z .args .channel) ≡ true
+channelled-at z = sym (z .before .before .is-channel .ensures) ∙ not-false _ (z .before .if2 .left)
 
-sized-at : (c : tie.After-is-good-date)
-    → goodSize (sizeOf (c .before .before .before .before .before .before .before .before .before .args .size)) ≡ true
-sized-at c =
-    let t = c .before .before .before in
-    sym (ap goodSize (size-back t)) ∙ sym (c .before .before .is-good-size .ensures) ∙ not-false _ (c .before .if3 .left)
+size-back : (z : tie.After-size-of) → sizeBy (z .size-of .result) ≡ sizeOf (begun z .args .size)
+size-back z = z .size-of .ensures ∙ ap sizeOf (toZ-ofZ w32 (begun z .args .size) (begun z .fits .size))
+
+size-tested : (c : tie.After-is-good-size) → goodSize (sizeOf (begun (c .before) .args .size)) ≡ c .is-good-size .result
+size-tested c = sym (ap goodSize (size-back (c .before))) ∙ sym (c .is-good-size .ensures)
+
+sized-at : (c : tie.After-is-good-date) → goodSize (sizeOf (begun (c .before .before .before) .args .size)) ≡ true
+sized-at c = size-tested (c .before .before) ∙ not-false _ (c .before .if3 .left)
 
 -- where the channel's entry is looked for, all tests before it have passed
 abbrev start : tie.After-find-entry-arg → tie.Start
-start c = c .before .before .before .before .before .before .before .before .before .before .before
+start c = begun (c .before .before .before .before .before)
 
 passed-at : (c : tie.After-find-entry-arg) → Passed (call (start c))
 passed-at c =
@@ -106,10 +105,9 @@ refused-requires-3 c κs = search needs
 returns-3 : tie.Need-returns-3
 unfolding refuse
 returns-3 c =
-    let t = c .before .before .before in
-    let n = named-at (t .before .before) in
-    let e = sym (ap goodSize (size-back t)) ∙ sym (c .before .before .is-good-size .ensures) ∙ not-true _ (c .before .if3 .taken) in
-    rw (size-wrong (call (t .before .before .before .before .before .before)) n (channelled-at t) e) (record { answer = c .refused3 .ensures; words = refl })
+    let z = c .before .before .before in
+    let e = size-tested (c .before .before) ∙ not-true _ (c .before .if3 .taken) in
+    rw (size-wrong (call (begun z)) (named-at (z .before .before)) (channelled-at z) e) (record { answer = c .refused3 .ensures; words = refl })
 
 is-good-date-requires : tie.Need-is-good-date-requires
 is-good-date-requires c κs = search needs
@@ -122,9 +120,9 @@ unfolding refuse
 returns-4 c =
     let t = c .before .before in
     let z = t .before .before .before in
-    let n = named-at (z .before .before) in
     let e = sym (t .is-good-date .ensures) ∙ not-true _ (c .before .if4 .taken) in
-    rw (date-wrong (call (z .before .before .before .before .before .before)) n (channelled-at z) (sized-at t) e) (record { answer = c .refused4 .ensures; words = refl })
+    rw (date-wrong (call (begun z)) (named-at (z .before .before)) (channelled-at z) (sized-at t) e)
+    (record { answer = c .refused4 .ensures; words = refl })
 
 mul-word : tie.Need-mul-word
 mul-word c =

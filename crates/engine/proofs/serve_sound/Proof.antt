@@ -1,14 +1,21 @@
 -- `serve_sound` meets its contract: the record's kind says which request is made, and that routine's contract says the rest. A lookup is lent
 -- the words to read alone, so they are as they were; a signed field comes back from the machine's word as it was.
 use borrow.Author.Needs.{needs}
-use mathlib.Core.Path.{sym}
+use mathlib.Core.Path.{_≡_, sym}
 use denote.Ref.{now}
 use mir.Syntax.{w32}
 use mir.ValLaws.{toZ-ofZ}
+use Rattle.meaning.specs.declared.Op.{Op}
 use Rattle.meaning.specs.declared.Op.the-variants.{Lookup, Enter, Close, Abandon, Delete, Rename}
+use Rattle.meaning.specs.Batch.{serve, serveBy}
 use Rattle.engine.proofs.Tested.{looked-up, serves}
 use Rattle.engine.proofs.serve_sound.Statement.{statement}
 use Rattle.engine.proofs.serve_sound.Tie as tie
+
+-- where the record's kind is asked for, the request is that of its kind
+served : (n : tie.After-name) (op : Op)
+    → let a = n .before .before .args in a .request .op ≡ op → serve (a .v) (now (a .d)) (a .request) ≡ serveBy op (a .v) (now (a .d)) (a .request)
+served n op e = let a = n .before .before .args in serves (a .v) (now (a .d)) (a .request) op e
 
 enum-told : tie.Need-enum-told
 enum-told c = search needs
@@ -51,11 +58,11 @@ same-length c = search needs
 
 returns : tie.Need-returns
 returns c =
-    let s = c .before .before .before .before .before .before in
-    let q = s .args .request in
-    rw (serves (s .args .v) (now (s .args .d)) q Lookup (c .before .before .enum-told .given .1)) (record {
+    let m = c .before .before in
+    let a = m .before .before .before .before .args in
+    rw (served (m .before .before) Lookup (m .enum-told .given .1)) (record {
       answer = c .lookup-sound .ensures;
-      words = sym (looked-up (s .args .v) (now (s .args .d)) (q .name));
+      words = sym (looked-up (a .v) (now (a .d)) (a .request .name));
     })
 
 same-length-2 : tie.Need-same-length-2
@@ -63,44 +70,44 @@ same-length-2 c = search needs
 
 returns-2 : tie.Need-returns-2
 returns-2 c =
-    let s = c .before .before .before .before .before .before .before .before .before in
-    let q = s .args .request in
+    let m = c .before .before .before .before .before in
+    let q = m .before .before .before .before .args .request in
     let back = toZ-ofZ w32 (q .size) (record { sfits = c .before .before .before .struct-told .given .1 .1 .1 .1 .1 .0 .1 }) in
-    rw (serves (s .args .v) (now (s .args .d)) q Enter (c .before .before .before .before .before .enum-told2 .given .1)) (rw back at (c .before .before .enter-sound .ensures))
+    rw (served (m .before .before) Enter (m .enum-told2 .given .1)) (rw back at (c .before .before .enter-sound .ensures))
 
 same-length-3 : tie.Need-same-length-3
 same-length-3 c = search needs
 
 returns-3 : tie.Need-returns-3
 returns-3 c =
-    let s = c .before .before .before .before .before .before .before .before .before in
-    let q = s .args .request in
+    let m = c .before .before .before .before .before in
+    let q = m .before .before .before .before .args .request in
     let back = toZ-ofZ w32 (q .«final_length») (record { sfits = c .before .before .before .struct-told2 .given .1 .1 .1 .1 .1 .1 .0 .1 }) in
-    rw (serves (s .args .v) (now (s .args .d)) q Close (c .before .before .before .before .before .enum-told3 .given .1)) (rw back at (c .before .before .close-sound .ensures))
+    rw (served (m .before .before) Close (m .enum-told3 .given .1)) (rw back at (c .before .before .close-sound .ensures))
 
 same-length-4 : tie.Need-same-length-4
 same-length-4 c = search needs
 
 returns-4 : tie.Need-returns-4
 returns-4 c =
-    let s = c .before .before .before .before .before .before .before .before in
-    rw (serves (s .args .v) (now (s .args .d)) (s .args .request) Abandon (c .before .before .before .before .enum-told4 .given .1)) (c .before .before .abandon-sound .ensures)
+    let m = c .before .before .before .before in
+    rw (served (m .before .before) Abandon (m .enum-told4 .given .1)) (c .before .before .abandon-sound .ensures)
 
 same-length-5 : tie.Need-same-length-5
 same-length-5 c = search needs
 
 returns-5 : tie.Need-returns-5
 returns-5 c =
-    let s = c .before .before .before .before .before .before .before .before in
-    rw (serves (s .args .v) (now (s .args .d)) (s .args .request) Delete (c .before .before .before .before .enum-told5 .given .1)) (c .before .before .delete-sound .ensures)
+    let m = c .before .before .before .before in
+    rw (served (m .before .before) Delete (m .enum-told5 .given .1)) (c .before .before .delete-sound .ensures)
 
 same-length-6 : tie.Need-same-length-6
 same-length-6 c = search needs
 
 returns-6 : tie.Need-returns-6
 returns-6 c =
-    let s = c .before .before .before .before .before .before .before .before in
-    rw (serves (s .args .v) (now (s .args .d)) (s .args .request) Rename (c .before .before .before .before .enum-told6 .given .1)) (c .before .before .rename-sound .ensures)
+    let m = c .before .before .before .before in
+    rw (served (m .before .before) Rename (m .enum-told6 .given .1)) (c .before .before .rename-sound .ensures)
 
 pub serve-sound-spec : {M : Type 1} → statement M
 serve-sound-spec =

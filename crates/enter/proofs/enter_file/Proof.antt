@@ -1,14 +1,27 @@
 -- `enter_file` meets its contract: by the survey's two tests the outcome is refusal 11, refusal 12, or what the placing gives.
 use borrow.Author.Needs.{needs}
-use mathlib.Core.Path.{sym, ap, _∙_}
+use mathlib.Core.Path.{refl}
 use denote.Ref.{now}
 use borrow.Author.Tests.{not-true, not-false}
 use Rattle.meaning.specs.Answers.{refuse}
 use Rattle.enter.proofs.Ready.{tidyable}
-use Rattle.enter.proofs.Placing.{answer-of, words-of}
-use Rattle.enter.proofs.Surveyed.{short, slotless, fits, roomy}
+use Rattle.enter.proofs.Surveyed.{Asking, short, slotless, fits, roomy}
 use Rattle.enter.proofs.enter_file.Statement.{statement}
 use Rattle.enter.proofs.enter_file.Tie as tie
+
+-- what is asked for, where the areas have been surveyed
+abbrev start : tie.After-survey-areas → tie.Start
+start k = k .before .before .before .before
+
+abbrev asking : tie.After-survey-areas → Asking
+asking k = record {
+  d = now (start k .args .d);
+  asked = start k .args .asked;
+  least = k .before .at-least .result;
+  is-least = k .before .at-least .ensures;
+  survey = k .survey-areas .result .areas;
+  areas = k .survey-areas .ensures .areas;
+}
 
 at-least-requires : tie.Need-at-least-requires
 at-least-requires c κs = search needs
@@ -25,16 +38,10 @@ same-length c = search needs
 returns : tie.Need-returns
 unfolding refuse
 returns c =
-    let c1 = c .before .before .before .before in
-    let c2 = c1 .before in
-    let c3 = c2 .before .before .before in
-    let s = c3 in
-    let d = now (s .args .d) in
-    let asked = s .args .asked in
-    let k = c1 .survey-areas .ensures in
-    let m = c2 .at-least .ensures in
-    let o = short d asked _ m _ (k .areas) (not-true _ (c .before .if1 .taken)) (s .args .name) (s .args .channel) (s .args .date) in
-    record { answer = c .refused .ensures ∙ sym (ap answer-of o); words = sym (ap words-of o) }
+    let k = c .before .before .before .before in
+    let a = start k .args in
+    rw (short (asking k) (not-true _ (c .before .if1 .taken)) (a .name) (a .channel) (a .date))
+    (record { answer = c .refused .ensures; words = refl })
 
 refused-requires-2 : tie.Need-refused-requires-2
 refused-requires-2 c κs = search needs
@@ -45,19 +52,11 @@ same-length-2 c = search needs
 returns-2 : tie.Need-returns-2
 unfolding refuse
 returns-2 c =
-    let c1 = c .before .before .before in
-    let c2 = c1 .before .before .before in
-    let c3 = c2 .before in
-    let c4 = c3 .before .before .before in
-    let s = c4 in
-    let d = now (s .args .d) in
-    let asked = s .args .asked in
-    let k = c2 .survey-areas .ensures in
-    let m = c3 .at-least .ensures in
-    let long = not-false _ (c1 .if1 .left) in
-    let o = slotless d asked _ m _ (k .areas) long (not-true _ (c .before .if2 .taken)) (s .args .name) (s .args .channel)
-    (s .args .date) in
-    record { answer = c .refused2 .ensures ∙ sym (ap answer-of o); words = sym (ap words-of o) }
+    let i = c .before .before .before in
+    let k = i .before .before .before in
+    let a = start k .args in
+    rw (slotless (asking k) (not-false _ (i .if1 .left)) (not-true _ (c .before .if2 .taken)) (a .name) (a .channel) (a .date))
+    (record { answer = c .refused2 .ensures; words = refl })
 
 wanted-of-requires : tie.Need-wanted-of-requires
 wanted-of-requires c κs = search needs
@@ -67,36 +66,23 @@ cast-place-file c = search needs
 
 place-file-requires : tie.Need-place-file-requires
 place-file-requires c κs =
-    let s = c .before .before .before .before .before .before .before .before .before .before .before in
-    let d = now (s .args .d) in
-    let asked = s .args .asked in
-    let k = c .before .before .before .before .before .before .before .survey-areas .ensures in
-    let m = c .before .before .before .before .before .before .before .before .at-least .ensures in
-    let long = not-false _ (c .before .before .before .before .if1 .left) in
-    let eligible = not-false _ (c .before .before .if2 .left) in
-    (s .pre, k .untidy, fits d asked _ m _ (k .areas) long eligible _ (c .before .wanted-of .ensures))
+    let w = c .before in
+    let i = w .before .before .before in
+    let k = i .before .before .before in
+    let room = fits (asking k) (not-false _ (i .if1 .left)) (not-false _ (w .before .if2 .left)) _ (w .wanted-of .ensures) in
+    (start k .pre, k .survey-areas .ensures .untidy, room)
 
 same-length-3 : tie.Need-same-length-3
 same-length-3 c = search needs
 
 returns-3 : tie.Need-returns-3
 returns-3 c =
-    let c1 = c .before .before .before .before in
-    let c2 = c1 .before in
-    let c3 = c2 .before .before in
-    let c4 = c3 .before .before .before in
-    let c5 = c4 .before in
-    let c6 = c5 .before .before .before in
-    let s = c6 in
-    let d = now (s .args .d) in
-    let asked = s .args .asked in
-    let k = c4 .survey-areas .ensures in
-    let m = c5 .at-least .ensures in
-    let long = not-false _ (c3 .if1 .left) in
-    let eligible = not-false _ (c2 .if2 .left) in
-    let o = roomy d asked _ m _ (k .areas) long eligible _ (c1 .wanted-of .ensures) (s .args .name) (s .args .channel) (s .args .date) in
-    let placed = c .before .before .place-file .ensures in
-    record { answer = placed .answer ∙ sym (ap answer-of o); words = placed .words ∙ sym (ap words-of o) }
+    let w = c .before .before .before .before in
+    let i = w .before .before .before in
+    let k = i .before .before .before in
+    let a = start k .args in
+    let room = roomy (asking k) (not-false _ (i .if1 .left)) (not-false _ (w .before .if2 .left)) _ (w .wanted-of .ensures) in
+    rw (room (a .name) (a .channel) (a .date)) (c .before .before .place-file .ensures)
 
 pub enter-file-spec : {M : Type 1} → statement M
 enter-file-spec =

@@ -2,15 +2,42 @@
 -- is the meaning's (`placed-at`).
 use borrow.Author.Needs.{needs}
 use native.Mathlib.Omega.{arith}
-use mathlib.Core.Path.{sym, ap, _∙_}
+use Prim.Native.Nat.{ℕ}
+use mathlib.Core.Path.{_≡_}
+use mathlib.Core.List.{List}
 use denote.Ref.{now}
 use Rattle.meaning.specs.Words.{chain}
 use Rattle.meaning.specs.Answers.{success}
 use Rattle.meaning.specs.Enter.{tidied}
+use Rattle.choice.specs.declared.choose.Chosen.{Chosen}
+use Rattle.choice.specs.declared.choose.Chosen.the-variants.{At}
 use Rattle.choice.specs.Choice.{Fitted}
-use Rattle.enter.proofs.Placing.{tidied-chained, somewhere, enterable, placed-at, first-small, at-after, answer-of, words-of}
+use Rattle.insert.specs.Spots.{Enterable}
+use Rattle.enter.proofs.Placing.{spotAt, tidied-chained, somewhere, enterable, placed-at, first-small, at-after}
 use Rattle.enter.proofs.place_file.Statement.{statement}
 use Rattle.enter.proofs.place_file.Tie as tie
+
+-- the words are tidied, and what was chosen is said of them
+abbrev tidy : tie.Start → List ℕ
+tidy s = let d = now (s .args .d) in tidied d (chain d)
+
+abbrev start : tie.After-first-fit → tie.Start
+start f = f .before .before .before .before .before .before .before
+
+fitted-at : (f : tie.After-first-fit) (r : Chosen) → f .first-fit .result ≡ r → Fitted r (tidy (start f)) (start f .args .blocks)
+fitted-at f r e = rw (← e) (rw (f .before .before .before .before .tidy-if .ensures) at (f .first-fit .ensures))
+
+-- where an area was chosen, an entry may be put into it
+abbrev begun : tie.After-chosen → tie.Start
+begun t = start (t .before .before)
+
+chosen-at : (t : tie.After-chosen) → Fitted (At (t .chosen .given .0 .0)) (tidy (begun t)) (begun t .args .blocks)
+chosen-at t = fitted-at (t .before .before) _ (t .chosen .given .1)
+
+enterable-at : (t : tie.After-chosen) → Enterable (tidy (begun t)) (spotAt (t .chosen .given .0 .0)) (begun t .args .blocks)
+enterable-at t =
+    let s = begun t in
+    enterable (s .args .v) (now (s .args .d)) (s .pre .0) (s .args .blocks) _ (chosen-at t)
 
 tidy-if-requires : tie.Need-tidy-if-requires
 tidy-if-requires c κs = search needs
@@ -18,11 +45,7 @@ tidy-if-requires c κs = search needs
 first-fit-requires : tie.Need-first-fit-requires
 first-fit-requires c κs =
     let s = c .before .before .before .before .before .before in
-    let v = s .args .v in
-    let d = now (s .args .d) in
-    let h = s .pre .0 in
-    let n = s .args .blocks in
-    rw (c .before .before .before .tidy-if .ensures) (tidied-chained v d h)
+    rw (c .before .before .before .tidy-if .ensures) (tidied-chained (s .args .v) (now (s .args .d)) (s .pre .0))
 
 enum-known-chosen : tie.Need-enum-known-chosen
 enum-known-chosen c = search needs
@@ -38,105 +61,37 @@ same-length c = search needs
 
 returns : tie.Need-returns
 returns c =
-    let c1 = c .before .before .before in
-    let c2 = c1 .before .before .before .before in
-    let c3 = c2 .before .before .before in
-    let s = c3 in
-    let v = s .args .v in
-    let d = now (s .args .d) in
-    let h = s .pre .0 in
-    let n = s .args .blocks in
-    let e = c2 .tidy-if .ensures in
-    let f : Fitted (c1 .first-fit .result) (tidied d (chain d)) n = rw e at (c1 .first-fit .ensures) in
-    absurd (somewhere v d h n _ f (s .pre .2) (c .before .enum-told .given .1))
+    let f = c .before .before .before in
+    let s = start f in
+    let e = fitted-at f _ (c .before .enum-told .given .1) in
+    absurd (somewhere (s .args .v) (now (s .args .d)) (s .pre .0) (s .args .blocks) e (s .pre .2))
 
 sub-t17 : tie.Need-sub-t17
 sub-t17 c =
-    let c1 = c .before .before .before .before in
-    let c2 = c1 .before .before .before .before in
-    let c3 = c2 .before .before .before in
-    let s = c3 in
-    let v = s .args .v in
-    let d = now (s .args .d) in
-    let h = s .pre .0 in
-    let n = s .args .blocks in
-    let e = c2 .tidy-if .ensures in
-    let f : Fitted (c1 .first-fit .result) (tidied d (chain d)) n = rw e at (c1 .first-fit .ensures) in
-    let p = c .before .before .chosen .given .0 .0 in
-    let g = c .before .before .chosen .given .1 in
-    let x = enterable v d h n _ p f g .chosen .low in
+    let x = enterable-at (c .before .before) .chosen .low in
     omega arith
 
 mul-t18 : tie.Need-mul-t18
 mul-t18 c =
-    let c1 = c .before .before .before .before in
-    let c2 = c1 .before .before .before .before in
-    let c3 = c2 .before .before .before in
-    let s = c3 in
-    let v = s .args .v in
-    let d = now (s .args .d) in
-    let h = s .pre .0 in
-    let n = s .args .blocks in
-    let e = c2 .tidy-if .ensures in
-    let f : Fitted (c1 .first-fit .result) (tidied d (chain d)) n = rw e at (c1 .first-fit .ensures) in
-    let p = c .before .before .chosen .given .0 .0 in
-    let g = c .before .before .chosen .given .1 in
-    let x = enterable v d h n _ p f g in
-    let y = x .chosen .high in
-    let w = x .chained .whole in
-    let z = x .chained .few in
-    record { fits = omega arith }
+    let x = enterable-at (c .before .before) in
+    record { fits = omega (arith, x .chosen .high, x .chained .whole, x .chained .few) }
 
 sub-t19 : tie.Need-sub-t19
 sub-t19 c =
-    let c1 = c .before .before .before in
-    let c2 = c1 .before .before in
-    let c3 = c2 .before .before .before .before in
-    let c4 = c3 .before .before .before in
-    let s = c4 in
-    let v = s .args .v in
-    let d = now (s .args .d) in
-    let h = s .pre .0 in
-    let n = s .args .blocks in
-    let e = c3 .tidy-if .ensures in
-    let f : Fitted (c2 .first-fit .result) (tidied d (chain d)) n = rw e at (c2 .first-fit .ensures) in
-    let p = c1 .chosen .given .0 .0 in
-    let g = c1 .chosen .given .1 in
-    at-after v d h n _ p f g
+    let t = c .before .before .before in
+    let s = begun t in
+    at-after (s .args .v) (now (s .args .d)) (s .pre .0) (s .args .blocks) _ (chosen-at t)
 
 enter-area-requires : tie.Need-enter-area-requires
 enter-area-requires c κs =
-    let c1 = c .before .before .before .before in
-    let c2 = c1 .before .before in
-    let c3 = c2 .before .before .before .before in
-    let c4 = c3 .before .before .before in
-    let s = c4 in
-    let v = s .args .v in
-    let d = now (s .args .d) in
-    let h = s .pre .0 in
-    let n = s .args .blocks in
-    let e = c3 .tidy-if .ensures in
-    let f : Fitted (c2 .first-fit .result) (tidied d (chain d)) n = rw e at (c2 .first-fit .ensures) in
-    let p = c1 .chosen .given .0 .0 in
-    let g = c1 .chosen .given .1 in
-    rw e (enterable v d h n _ p f g)
+    let t = c .before .before .before .before in
+    rw (t .before .before .before .before .before .before .tidy-if .ensures) (enterable-at t)
 
 cast-succeeded : tie.Need-cast-succeeded
 cast-succeeded c =
-    let c1 = c .before .before .before .before .before .before .before .before in
-    let c2 = c1 .before .before in
-    let c3 = c2 .before .before .before .before in
-    let c4 = c3 .before .before .before in
-    let s = c4 in
-    let v = s .args .v in
-    let d = now (s .args .d) in
-    let h = s .pre .0 in
-    let n = s .args .blocks in
-    let e = c3 .tidy-if .ensures in
-    let f : Fitted (c2 .first-fit .result) (tidied d (chain d)) n = rw e at (c2 .first-fit .ensures) in
-    let p = c1 .chosen .given .0 .0 in
-    let g = c1 .chosen .given .1 in
-    let x = first-small v d h n _ p f g in
+    let t = c .before .before .before .before .before .before .before .before in
+    let s = begun t in
+    let x = first-small (s .args .v) (now (s .args .d)) (s .pre .0) (s .args .blocks) _ (chosen-at t) in
     record { fits = omega arith }
 
 succeeded-requires : tie.Need-succeeded-requires
@@ -148,25 +103,13 @@ same-length-2 c = search needs
 returns-2 : tie.Need-returns-2
 unfolding success
 returns-2 c =
-    let c1 = c .before .before .before .before in
-    let c2 = c1 .before .before .before .before .before in
-    let c3 = c2 .before .before in
-    let c4 = c3 .before .before .before .before in
-    let c5 = c4 .before .before .before in
-    let s = c5 in
-    let v = s .args .v in
-    let d = now (s .args .d) in
-    let h = s .pre .0 in
-    let n = s .args .blocks in
-    let e = c4 .tidy-if .ensures in
-    let f : Fitted (c3 .first-fit .result) (tidied d (chain d)) n = rw e at (c3 .first-fit .ensures) in
-    let p = c2 .chosen .given .0 .0 in
-    let g = c2 .chosen .given .1 in
-    let o = placed-at v d h n _ p f g (s .args .name) (s .args .channel) (s .args .date) in
-    record {
-      answer = c .succeeded .ensures ∙ sym (ap answer-of o);
-      words = (rw e at (c1 .enter-area .ensures)) ∙ sym (ap words-of o);
-    }
+    let m = c .before .before .before .before in
+    let t = m .before .before .before .before .before in
+    let s = begun t in
+    let a = s .args in
+    let e = t .before .before .before .before .before .before .tidy-if .ensures in
+    rw (placed-at (a .v) (now (a .d)) (s .pre .0) (a .blocks) _ (chosen-at t) (a .name) (a .channel) (a .date))
+    (record { answer = c .succeeded .ensures; words = rw e at (m .enter-area .ensures) })
 
 pub place-file-spec : {M : Type 1} → statement M
 place-file-spec =

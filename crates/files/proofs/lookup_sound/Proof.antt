@@ -6,7 +6,8 @@ use denote.Ref.{now}
 use Rattle.meaning.specs.Answers.{refuse}
 use Rattle.chain.proofs.Chains.{fault-chained}
 use Rattle.meaning.specs.declared.Key.the-variants.{File}
-use Rattle.find.proofs.Behind.{answer-of, first-fits}
+use Rattle.find.proofs.Behind.{first-fits}
+use Rattle.walks.proofs.Outcomes.{answer-of}
 use Rattle.files.proofs.Tested.{lookup-illegal, lookup-at, lookup-none}
 use Rattle.files.proofs.lookup_sound.Statement.{statement}
 use Rattle.files.proofs.lookup_sound.Tie as tie

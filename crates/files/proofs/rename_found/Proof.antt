@@ -2,15 +2,28 @@
 -- found and the new one was not.
 use borrow.Author.Needs.{needs}
 use native.Mathlib.Omega.{arith}
-use mathlib.Core.Path.{refl, sym, _∙_}
+use mathlib.Core.Path.{_≡_, refl, sym, _∙_}
 use denote.Ref.{now}
 use Rattle.meaning.specs.declared.Key.the-variants.{File}
-use Rattle.meaning.specs.Answers.{refuse}
+use Rattle.meaning.specs.Words.{rows}
+use Rattle.meaning.specs.Keys.{holds}
+use Rattle.meaning.specs.Answers.{refuse, find}
+use Rattle.segment.specs.declared.finder.Found.the-variants.{At}
+use Rattle.segment.specs.Finder.{foundOf}
 use Rattle.chain.proofs.Chains.{fault-chained}
-use Rattle.find.proofs.Behind.{first-fits, place-inside}
+use Rattle.find.proofs.Behind.{first-fits}
+use Rattle.segment.proofs.Searching.{place-inside}
 use Rattle.files.proofs.Tested.{renamed-none, renamed-taken, renamed-at}
 use Rattle.files.proofs.rename_found.Statement.{statement}
 use Rattle.files.proofs.rename_found.Tie as tie
+
+-- where the old name was found
+abbrev start : tie.After-found → tie.Start
+start t = t .before .before .before .before .before
+
+found-at : (t : tie.After-found)
+    → foundOf (find (holds (File (start t .args .old))) (rows (now (start t .args .d)))) ≡ At (t .found .given .0 .0)
+found-at t = sym (t .before .before .find-entry .ensures .is) ∙ t .found .given .1
 
 find-entry-requires : tie.Need-find-entry-requires
 find-entry-requires c κs = let s = c .before .before in fault-chained (s .args .v) (now (s .args .d)) (s .pre)
@@ -37,7 +50,7 @@ returns c =
 
 find-entry-requires-2 : tie.Need-find-entry-requires-2
 find-entry-requires-2 c κs =
-    let s = c .before .before .before .before .before .before .before in
+    let s = start (c .before .before) in
     fault-chained (s .args .v) (now (s .args .d)) (s .pre)
 
 enum-told-2 : tie.Need-enum-told-2
@@ -51,15 +64,15 @@ enum-told-3 c = search needs
 
 give-name-requires : tie.Need-give-name-requires
 give-name-requires c κs =
-    let f = c .before .before .before .before .before .before .before .before in
-    let l = place-inside _ _ _ _ (c .before .before .before .before .before .before .found .given .1) (f .find-entry .ensures .inside) in
+    let t = c .before .before .before .before .before .before in
+    let l = place-inside _ _ _ _ (t .found .given .1) (t .before .before .find-entry .ensures .inside) in
     omega arith
 
 answered-requires : tie.Need-answered-requires
 answered-requires c κs =
-    let f = c .before .before .before .before .before .before .before .before .before .before .before in
-    let s = f .before .before .before in
-    first-fits (s .args .v) (now (s .args .d)) (s .pre) (File (s .args .old)) _ (sym (f .find-entry .ensures .is) ∙ c .before .before .before .before .before .before .before .before .before .found .given .1)
+    let t = c .before .before .before .before .before .before .before .before .before in
+    let s = start t in
+    first-fits (s .args .v) (now (s .args .d)) (s .pre) (File (s .args .old)) _ (found-at t)
 
 same-length-2 : tie.Need-same-length-2
 same-length-2 c = search needs
@@ -67,22 +80,23 @@ same-length-2 c = search needs
 returns-2 : tie.Need-returns-2
 unfolding refuse
 returns-2 c =
-    let f = c .before .before .before .before .before .before .before .before in
-    let s = f .before .before .before in
-    let e = sym (f .find-entry .ensures .is) ∙ c .before .before .before .before .before .before .found .given .1 in
-    let q = sym (c .before .before .before .find-entry2 .ensures .is) ∙ c .before .enum-told2 .given .1 in
-    rw (renamed-taken (now (s .args .d)) (s .args .old) (s .args .new) _ _ e q) (record { answer = c .refused2 .ensures; words = refl })
+    let f = c .before .before .before in
+    let t = f .before .before .before in
+    let a = start t .args in
+    let e = sym (f .find-entry2 .ensures .is) ∙ c .before .enum-told2 .given .1 in
+    rw (renamed-taken (now (a .d)) (a .old) (a .new) _ _ (found-at t) e) (record { answer = c .refused2 .ensures; words = refl })
 
 same-length-3 : tie.Need-same-length-3
 same-length-3 c = search needs
 
 returns-3 : tie.Need-returns-3
 returns-3 c =
-    let f = c .before .before .before .before .before .before .before .before .before .before .before .before in
-    let s = f .before .before .before in
-    let e = sym (f .find-entry .ensures .is) ∙ c .before .before .before .before .before .before .before .before .before .before .found .given .1 in
-    let q = sym (c .before .before .before .before .before .before .before .find-entry2 .ensures .is) ∙ c .before .before .before .before .before .enum-told3 .given .1 in
-    rw (renamed-at (now (s .args .d)) (s .args .old) (s .args .new) _ e q)
+    let n = c .before .before .before .before .before in
+    let f = n .before .before in
+    let t = f .before .before .before in
+    let a = start t .args in
+    let e = sym (f .find-entry2 .ensures .is) ∙ n .enum-told3 .given .1 in
+    rw (renamed-at (now (a .d)) (a .old) (a .new) _ (found-at t) e)
     (record { answer = c .answered .ensures; words = c .before .before .before .give-name .ensures })
 
 pub rename-found-spec : {M : Type 1} → statement M

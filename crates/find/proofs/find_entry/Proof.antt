@@ -7,7 +7,8 @@ use borrow.Author.Needs.{needs}
 use Prim.Native.Nat.{_+_}
 use lib.ListN.{length-take, length-drop}
 use Rattle.segment.specs.declared.finder.Found.the-variants.{At, Nothing}
-use Rattle.chain.proofs.Links.{base, Next, next}
+use Rattle.chain.proofs.Links.{Next, next}
+use Rattle.walks.proofs.Words.{base}
 use Rattle.find.proofs.Finding.{Finding, starts, turn, turned, found-part, widen}
 use Rattle.find.proofs.find_entry.Statement.{statement}
 use Rattle.find.proofs.find_entry.Tie as tie
@@ -21,7 +22,7 @@ abbrev μ-loop : tie.MeasureT-loop
 -- the segment at hand is one of 1..H
 here : (c : tie.In-loop Inv-loop μ-loop)
     → Next (c .before .loop .left) (now (c .before .before .before .before .before .args .d)) (c .before .loop .segment)
-here c = next _ _ _ (c .loop-test .taken) (c .before .loop .inv .links)
+here c = next _ _ _ (c .before .before .before .before .before .pre) (c .loop-test .taken) (c .before .loop .inv .links)
 
 shared-slice-read-width : tie.Need-shared-slice-read-width Inv-loop μ-loop
 shared-slice-read-width c = omega arith
@@ -39,7 +40,7 @@ cast-left : tie.Need-cast-left Inv-loop μ-loop
 cast-left c = omega (arith, c .shared-slice-known3 .given 2)
 
 loop-holds : tie.Need-loop-holds Inv-loop μ-loop
-loop-holds c = starts (now (c .before .before .before .args .d)) (c .before .before .before .args .key) (c .before .before .before .pre)
+loop-holds c = let s = c .before .before .before in starts (now (s .args .d)) (s .args .key) (s .pre)
 
 sub-base : tie.Need-sub-base Inv-loop μ-loop
 sub-base c = let x = here c in omega arith
@@ -87,14 +88,14 @@ enum-known-found c = search needs
 
 returns : tie.Need-returns Inv-loop μ-loop
 returns c =
-    let a = c .before .before .before .before .before .before .before .before .before .before .before .args in
-    let l = c .before .before .before .before .before .before .before .loop in
-    let h = c .before .before .before .before .before .before .loop-test .taken in
+    let i = c .before .before .before .before .before .before in
+    let a = i .before .before .before .before .before .args in
+    let l = i .before .loop in
     let g = c .before .found .given in
     let r = c .before .before .before .find-in .ensures in
     let f = found-part (a .key) (now (a .d)) (l .segment) _ (r .is) in
-    let e = turn (a .key) (l .left) (now (a .d)) (l .segment) (At (g .0 .0)) h (sym (g .1) ∙ f) in
-    let x = here (c .before .before .before .before .before .before) in
+    let e = turn (a .key) (l .left) (now (a .d)) (l .segment) (At (g .0 .0)) (i .loop-test .taken) (sym (g .1) ∙ f) in
+    let x = here i in
     record { is = sym e ∙ l .inv .same; inside = widen _ _ _ _ _ (g .1) (r .inside) (omega arith) }
 
 enum-told : tie.Need-enum-told Inv-loop μ-loop
@@ -122,12 +123,12 @@ loop-less c = search needs
 
 loop-again : tie.Need-loop-again Inv-loop μ-loop
 loop-again c =
-    let a = c .before .before .before .before .before .before .before .before .before .before .before .args in
-    let l = c .before .before .before .before .before .before .before .loop in
-    let h = c .before .before .before .before .before .before .loop-test .taken in
+    let i = c .before .before .before .before .before .before in
+    let a = i .before .before .before .before .before .args in
+    let l = i .before .loop in
     let f = found-part (a .key) (now (a .d)) (l .segment) _ (c .before .before .before .find-in .ensures .is) in
-    let e = turn (a .key) (l .left) (now (a .d)) (l .segment) Nothing h (sym (c .before .enum-told .given .1) ∙ f) in
-    record { links = here (c .before .before .before .before .before .before) .rest; few = omega arith; same = sym e ∙ l .inv .same }
+    let e = turn (a .key) (l .left) (now (a .d)) (l .segment) Nothing (i .loop-test .taken) (sym (c .before .enum-told .given .1) ∙ f) in
+    record { links = here i .rest; few = omega arith; same = sym e ∙ l .inv .same }
 
 returns-2 : tie.Need-returns-2 Inv-loop μ-loop
 returns-2 c =

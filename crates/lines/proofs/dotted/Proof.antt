@@ -1,7 +1,8 @@
 -- `dotted` meets its contract: its three writes add up, the last of the three characters that are left (law `dotted-text`).
 use borrow.Author.Needs.{needs}
+use native.Mathlib.Omega.{arith}
+use lib.ListN.{length-set}
 use denote.Ref.{now}
-use Rattle.names.specs.Text.{bytes}
 use Rattle.lines.proofs.Shown.{dotted-text}
 use Rattle.lines.proofs.dotted.Statement.{statement}
 use Rattle.lines.proofs.dotted.Tie as tie
@@ -18,11 +19,11 @@ part-put-bytes-end c = search needs
 put-bytes-requires : tie.Need-put-bytes-requires
 put-bytes-requires c κs = search needs
 
-slice-aggregate-put-bytes : tie.Need-slice-aggregate-put-bytes
-slice-aggregate-put-bytes c = search needs
+slice-write-out : tie.Need-slice-write-out
+slice-write-out c = search needs
 
-put-bytes-requires-2 : tie.Need-put-bytes-requires-2
-put-bytes-requires-2 c κs = search needs
+add-put-bytes : tie.Need-add-put-bytes
+add-put-bytes c = search needs
 
 sub-put-bytes-2 : tie.Need-sub-put-bytes-2
 sub-put-bytes-2 c = search needs
@@ -33,21 +34,21 @@ part-put-bytes-start-2 c = search needs
 part-put-bytes-end-2 : tie.Need-part-put-bytes-end-2
 part-put-bytes-end-2 c = search needs
 
-put-bytes-requires-3 : tie.Need-put-bytes-requires-3
-put-bytes-requires-3 c κs = search needs
+put-bytes-requires-2 : tie.Need-put-bytes-requires-2
+put-bytes-requires-2 c κs = rw length-set (omega arith)
 
 same-length : tie.Need-same-length
-same-length c = search needs
+same-length c =
+    let d = c .before .before in
+    let e = d .before .before .before .before .before in
+    omega (arith, length-set (e .put-bytes .last .0) (e .put-bytes .result) 46)
 
 returns : tie.Need-returns
-unfolding bytes
 returns c =
-    let u = c .before .before .before .before .before .before .before .before .before .before .before .before .put-bytes .ensures in
-    let v = c .before .before .before .before .before .before .before .put-bytes2 .ensures in
-    let w = c .before .before .put-bytes3 .ensures in
-    let a = c .before .before .before .before .before .before .before .before .before .before .before .before .before .before .before .before .before .args in
-    let h = c .before .before .before .before .before .before .before .before .before .before .before .before .before .before .before .before .before .pre in
-    dotted-text (now (a .text)) (h .0) u v w
+    let d = c .before .before in
+    let e = d .before .before .before .before .before in
+    let b = e .before .before .before .before in
+    dotted-text (now (b .before .args .text)) (b .before .pre .0) (e .put-bytes .ensures) (d .put-bytes2 .ensures)
 
 pub dotted-spec : {M : Type 1} → statement M
 dotted-spec =
@@ -57,11 +58,11 @@ dotted-spec =
     part-put-bytes-start
     part-put-bytes-end
     put-bytes-requires
-    slice-aggregate-put-bytes
-    put-bytes-requires-2
+    slice-write-out
+    add-put-bytes
     sub-put-bytes-2
     part-put-bytes-start-2
     part-put-bytes-end-2
-    put-bytes-requires-3
+    put-bytes-requires-2
     same-length
     returns)

@@ -1,10 +1,11 @@
--- `head_line` meets its contract: its five writes add up, bracketed as the meaning has them (laws `both`, `and-both`).
+-- `head_line` meets its contract: its five writes add up, bracketed as the meaning has them (laws `and-both`, `and-one`).
 use borrow.Author.Needs.{needs}
 use native.Mathlib.Omega.{arith}
+use lib.ListN.{length-set}
 use Rattle.lines.specs.Pieces.{headBy}
 use Rattle.names.specs.Text.{bytes}
 use Rattle.meaning.specs.Listing.{decimal}
-use Rattle.lines.proofs.Writes.{both, and-both}
+use Rattle.lines.proofs.Writes.{and-both, and-one}
 use Rattle.lines.proofs.head_line.Statement.{statement}
 use Rattle.lines.proofs.head_line.Tie as tie
 
@@ -32,28 +33,31 @@ slice-aggregate-captioned-4 c = search needs
 captioned-requires-4 : tie.Need-captioned-requires-4
 captioned-requires-4 c κs = search needs
 
-slice-aggregate-put-bytes : tie.Need-slice-aggregate-put-bytes
-slice-aggregate-put-bytes c = search needs
+slice-write-out : tie.Need-slice-write-out
+slice-write-out c = search needs
 
-put-bytes-requires : tie.Need-put-bytes-requires
-put-bytes-requires c κs = search needs
+add-result : tie.Need-add-result
+add-result c = search needs
 
 same-length : tie.Need-same-length
-same-length c = search needs
+same-length c = rw length-set (omega arith)
 
 returns : tie.Need-returns
 unfolding headBy bytes
 returns c =
-    let a = c .before .before .before .before .before .before .before .before .before .before .before .before .before .before .before .before .before .before .before .before .before .before .before .before .before .before .args in
-    let v = c .before .before .before .before .before .before .before .before .before .before .before .before .before .before .before .before .before .before .before .before .before .before .captioned .ensures in
-    let highest = c .before .before .before .before .before .before .before .before .before .before .before .before .before .before .before .before .before .captioned2 .ensures in
-    let segments = c .before .before .before .before .before .before .before .before .before .before .before .before .captioned3 .ensures in
-    let extra = c .before .before .before .before .before .before .before .captioned4 .ensures in
-    let feed = c .before .before .put-bytes .ensures in
+    let c4 = c .before .before in
+    let c3 = c4 .before .before .before .before .before in
+    let c2 = c3 .before .before .before .before .before in
+    let c1 = c2 .before .before .before .before .before in
+    let a = c1 .before .before .before .before .args in
+    let v = c1 .captioned .ensures in
+    let highest = c2 .captioned2 .ensures in
+    let segments = c3 .captioned3 .ensures in
+    let extra = c4 .captioned4 .ensures in
     let two = and-both (bytes " SEGMENTS ") (decimal (a .highest)) (v .wrote) (highest .wrote) in
     let three = and-both (bytes " OF ") (decimal (a .segments)) two (segments .wrote) in
     let four = and-both (bytes " EXTRA ") (decimal (a .extra)) three (extra .wrote) in
-    record { wrote = both four feed; short = omega arith }
+    record { wrote = and-one 10 four (omega arith); short = omega arith }
 
 pub head-line-spec : {M : Type 1} → statement M
 head-line-spec =
@@ -67,7 +71,7 @@ head-line-spec =
     captioned-requires-3
     slice-aggregate-captioned-4
     captioned-requires-4
-    slice-aggregate-put-bytes
-    put-bytes-requires
+    slice-write-out
+    add-result
     same-length
     returns)

@@ -20,8 +20,9 @@ same-length c = search needs
 returns : tie.Need-returns
 unfolding nameBy
 returns c =
-    let a = c .before .before .before .before .before .before .before .before .args in
-    let h = c .before .before .before .before .before .before .before .before .pre in
+    let b = c .before .before .before .before .before .before .before .before in
+    let a = b .args in
+    let h = b .pre in
     let s = c .before .before .before .before .before .before .text-of-words in
     rw (← spelled-text (a .a) (a .b) (a .c) (s .result) (s .ensures) (h .0) (h .1) (h .2)) (c .before .before .dotted .ensures)
 

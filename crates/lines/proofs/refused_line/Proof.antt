@@ -1,9 +1,9 @@
--- `refused_line` meets its contract: its two writes add up (law `both`).
+-- `refused_line` meets its contract: the line feed adds to what was written (law `and-one`).
 use borrow.Author.Needs.{needs}
 use native.Mathlib.Omega.{arith}
 use Rattle.meaning.specs.Listing.{refusedLine}
 use Rattle.names.specs.Text.{bytes}
-use Rattle.lines.proofs.Writes.{both}
+use Rattle.lines.proofs.Writes.{and-one}
 use Rattle.lines.proofs.refused_line.Statement.{statement}
 use Rattle.lines.proofs.refused_line.Tie as tie
 
@@ -13,11 +13,11 @@ slice-aggregate-captioned c = search needs
 captioned-requires : tie.Need-captioned-requires
 captioned-requires c κs = search needs
 
-slice-aggregate-put-bytes : tie.Need-slice-aggregate-put-bytes
-slice-aggregate-put-bytes c = search needs
+slice-write-out : tie.Need-slice-write-out
+slice-write-out c = search needs
 
-put-bytes-requires : tie.Need-put-bytes-requires
-put-bytes-requires c κs = search needs
+add-result : tie.Need-add-result
+add-result c = search needs
 
 same-length : tie.Need-same-length
 same-length c = search needs
@@ -25,9 +25,8 @@ same-length c = search needs
 returns : tie.Need-returns
 unfolding refusedLine bytes
 returns c =
-    let number = c .before .before .before .before .before .before .before .captioned .ensures in
-    let feed = c .before .before .put-bytes .ensures in
-    record { wrote = both (number .wrote) feed; short = omega arith }
+    let number = c .before .before .captioned .ensures in
+    record { wrote = and-one 10 (number .wrote) (omega arith); short = omega arith }
 
 pub refused-line-spec : {M : Type 1} → statement M
 refused-line-spec =
@@ -35,7 +34,7 @@ refused-line-spec =
     (tie.spec
     slice-aggregate-captioned
     captioned-requires
-    slice-aggregate-put-bytes
-    put-bytes-requires
+    slice-write-out
+    add-result
     same-length
     returns)

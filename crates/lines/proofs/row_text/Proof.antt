@@ -26,11 +26,14 @@ same-length c = search needs
 returns : tie.Need-returns
 unfolding rowBy
 returns c =
-    let a = c .before .before .before .before .before .before .before .before .before .before .before .before .before .before .before .before .before .args in
+    let c3 = c .before .before .before .before .before .before in
+    let c2 = c3 .before .before .before .before in
+    let c1 = c2 .before .before .before .before in
+    let a = c1 .before .before .before .args in
     let start = rowStart (a .kind) (a .a) (a .b) (a .c) in
-    let u = c .before .before .before .before .before .before .before .before .before .before .before .before .before .before .row-start .ensures in
-    let v = c .before .before .before .before .before .before .before .before .before .before .six-wide .ensures in
-    let w = c .before .before .before .before .before .before .six-wide2 .ensures in
+    let u = c1 .row-start .ensures in
+    let v = c2 .six-wide .ensures in
+    let w = c3 .six-wide2 .ensures in
     let x = c .before .before .row-end .ensures in
     let front = both {l = start} (u .wrote) (v .wrote) in
     let numbers = both {l = start ++ sixWide (a .first)} front (w .wrote) in

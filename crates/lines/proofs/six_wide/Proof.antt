@@ -31,9 +31,10 @@ same-length c = search needs
 
 returns : tie.Need-returns
 returns c =
-    let n = c .before .before .before .before .before .before .before .before .before .before .args .n in
-    let h = c .before .before .before .before .before .before .before .before .before .before .pre .0 in
     let d = c .before .before .before .before .before .before .before .decimal in
+    let b = c .before .before .before .before .before .before .before .before .before .before in
+    let n = b .args .n in
+    let h = b .pre .0 in
     let w = rw (six-before (d .last .0) n (d .result) h (d .ensures .wrote)) at (c .before .before .put-bytes .ensures) in
     record { wrote = w; short = omega (arith, six-long n h) }
 

@@ -16,7 +16,9 @@ listing-requires : tie.Need-listing-requires
 listing-requires c κs = search needs
 
 write-start-requires : tie.Need-write-start-requires
-write-start-requires c κs = begins (text (c .before .before .before .before .args .file .now)) _ (c .before .listing .ensures .long) (c .before .listing .ensures .text)
+write-start-requires c κs =
+    let l = c .before .listing .ensures in
+    begins (text (c .before .before .before .before .args .file .now)) _ (l .long) (l .text)
 
 returns : tie.Need-returns
 returns c = search needs

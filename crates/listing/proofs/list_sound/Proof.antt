@@ -2,39 +2,29 @@
 -- (law `sound-text`).
 use native.Mathlib.Omega.{arith}
 use denote.Ref.{now}
-use Rattle.listing.proofs.Whole.{head-fits, sound-text}
+use Rattle.listing.proofs.Whole.{HeadFits, head-fits, sound-text}
 use borrow.Author.Needs.{needs}
 use Rattle.listing.proofs.list_sound.Statement.{statement}
 use Rattle.listing.proofs.list_sound.Tie as tie
 
+fits-at : (s : tie.Start) → HeadFits (s .args .v) (now (s .args .d))
+fits-at s = head-fits (s .args .v) (now (s .args .d)) (s .pre .0)
+
 shared-slice-read-head-line : tie.Need-shared-slice-read-head-line
-shared-slice-read-head-line c =
-    let s = c .before .before .before .before in
-    let f = head-fits (s .args .v) (now (s .args .d)) (s .pre .0) in
-    omega arith
+shared-slice-read-head-line c = omega (arith, fits-at (c .before .before .before .before))
 
 cast-head-line : tie.Need-cast-head-line
-cast-head-line c =
-    let s = c .before .before .before .before in
-    let f = head-fits (s .args .v) (now (s .args .d)) (s .pre .0) in
-    omega arith
+cast-head-line c = omega (arith, fits-at (c .before .before .before .before))
 
 shared-slice-read-head-line-2 : tie.Need-shared-slice-read-head-line-2
-shared-slice-read-head-line-2 c =
-    let s = c .before .before .before .before .before in
-    let f = head-fits (s .args .v) (now (s .args .d)) (s .pre .0) in
-    omega arith
+shared-slice-read-head-line-2 c = omega (arith, fits-at (c .before .before .before .before .before))
 
 cast-head-line-2 : tie.Need-cast-head-line-2
-cast-head-line-2 c =
-    let s = c .before .before .before .before .before in
-    let f = head-fits (s .args .v) (now (s .args .d)) (s .pre .0) in
-    omega arith
+cast-head-line-2 c = omega (arith, fits-at (c .before .before .before .before .before))
 
 head-line-requires : tie.Need-head-line-requires
 head-line-requires c κs =
-    let s = c .before .before .before .before .before in
-    let f = head-fits (s .args .v) (now (s .args .d)) (s .pre .0) in
+    let f = fits-at (c .before .before .before .before .before) in
     (f .volume, f .used, f .all, f .extra, omega arith)
 
 put-rows-requires : tie.Need-put-rows-requires
@@ -51,11 +41,11 @@ same-length c = search needs
 
 returns : tie.Need-returns
 returns c =
-    let a = c .before .before .before .before .before .before .before .before .before .before .before .before .before .before .before .before .before .args in
-    sound-text (a .v) (now (a .d))
-    (c .before .before .before .before .before .before .before .before .before .before .before .head-line .ensures)
-    (c .before .before .before .before .before .before .before .put-rows .ensures)
-    (c .before .before .before .before .total-blocks .ensures)
+    let c3 = c .before .before .before .before in
+    let c2 = c3 .before .before .before in
+    let c1 = c2 .before .before .before .before in
+    let a = c1 .before .before .before .before .before .before .args in
+    sound-text (a .v) (now (a .d)) (c1 .head-line .ensures) (c2 .put-rows .ensures) (c3 .total-blocks .ensures)
     (c .before .before .total-line .ensures)
 
 pub list-sound-spec : {M : Type 1} → statement M

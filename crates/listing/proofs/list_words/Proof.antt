@@ -20,8 +20,9 @@ same-length c = search needs
 
 returns : tie.Need-returns
 returns c =
-    let a = c .before .before .before .before .before .before .before .before .args in
-    refused-text (a .v) (now (a .d)) (c .before .before .before .before .before .fault-of .ensures) (c .before .before .before .before .if1 .taken) (c .before .before .refused-line .ensures)
+    let t = c .before .before .before .before in
+    let a = t .before .before .before .before .args in
+    refused-text (a .v) (now (a .d)) (t .before .fault-of .ensures) (t .if1 .taken) (c .before .before .refused-line .ensures)
 
 list-sound-requires : tie.Need-list-sound-requires
 list-sound-requires c κs = search needs
@@ -31,8 +32,9 @@ same-length-2 c = search needs
 
 returns-2 : tie.Need-returns-2
 returns-2 c =
-    let a = c .before .before .before .before .before .before .before .before .args in
-    no-fault (a .v) (now (a .d)) (sym (c .before .before .before .before .before .fault-of .ensures) ∙ c .before .before .before .before .if1 .left) (c .before .before .list-sound .ensures)
+    let e = c .before .before .before .before in
+    let a = e .before .before .before .before .args in
+    no-fault (a .v) (now (a .d)) (sym (e .before .fault-of .ensures) ∙ e .if1 .left) (c .before .before .list-sound .ensures)
 
 pub list-words-spec : {M : Type 1} → statement M
 list-words-spec =

@@ -21,25 +21,24 @@ refused-line-requires c κs = search needs
 
 returns : tie.Need-returns
 returns c =
-    let g = c .before .before .before .good-head in
-    bad-head (now (c .before .before .before .before .before .args .file)) (sym (g .ensures) ∙ not-true (g .result) (c .before .before .if1 .taken)) (c .refused-line .ensures)
+    let t = c .before .before in
+    let g = t .before .good-head in
+    bad-head (now (t .before .before .before .args .file)) (sym (g .ensures) ∙ not-true (g .result) (t .if1 .taken)) (c .refused-line .ensures)
+
+good-at : (c : tie.Else1) → goodHead (now (c .before .before .before .args .file)) ≡ true
+good-at c =
+    let g = c .before .good-head in
+    sym (g .ensures) ∙ not-false (g .result) (c .if1 .left)
 
 volume-in-requires : tie.Need-volume-in-requires
-volume-in-requires c κs =
-    let file = now (c .before .before .before .args .file) in
-    let g = c .before .good-head in
-    let t : goodHead file ≡ true = sym (g .ensures) ∙ not-false (g .result) (c .if1 .left) in
-    good-parts file t .long
+volume-in-requires c κs = good-parts (now (c .before .before .before .args .file)) (good-at c) .long
 
 slice-aggregate-load-words : tie.Need-slice-aggregate-load-words
 slice-aggregate-load-words c = search needs
 
 load-words-requires : tie.Need-load-words-requires
 load-words-requires c κs =
-    let file = now (c .before .before .before .before .before .args .file) in
-    let g = c .before .before .before .good-head in
-    let t : goodHead file ≡ true = sym (g .ensures) ∙ not-false (g .result) (c .before .before .if1 .left) in
-    let p = good-parts file t in
+    let p = good-parts (now (c .before .before .before .before .before .args .file)) (good-at (c .before .before)) in
     (p .long, p .within)
 
 array-share-prefix-words : tie.Need-array-share-prefix-words
@@ -55,10 +54,10 @@ list-words-requires c κs = search needs
 
 returns-2 : tie.Need-returns-2
 returns-2 c =
-    let file = now (c .before .before .before .before .before .before .before .before .before .before .args .file) in
-    let g = c .before .before .before .before .before .before .before .before .good-head in
-    let t : goodHead file ≡ true = sym (g .ensures) ∙ not-false (g .result) (c .before .before .before .before .before .before .before .if1 .left) in
-    good-head file t (c .before .before .before .before .before .before .volume-in .ensures .is) (loaded (c .before .before .before .before .load-words .ensures)) (c .list-words .ensures)
+    let w = c .before .before .before .before in
+    let v = w .before .before in
+    let e = v .before in
+    good-head (now (e .before .before .before .args .file)) (good-at e) (v .volume-in .ensures .is) (loaded (w .load-words .ensures)) (c .list-words .ensures)
 
 pub listing-spec : {M : Type 1} → statement M
 listing-spec =

@@ -1,10 +1,26 @@
 -- `insert_words` meets its contract: its writes are those of `InPlace`, one after the other.
 use borrow.Author.Needs.{needs}
 use native.Mathlib.Omega.{arith}
-use mathlib.Core.Path.{sym, _∙_}
-use Rattle.render.proofs.InPlace.{added-length, next-is, long-is, area-size, size, inserted-is}
+use mathlib.Core.Path.{_≡_, sym, _∙_}
+use Prim.Native.Nat.{_+_, _<_}
+use lib.ListN.{length}
+use Rattle.render.proofs.InPlace.{added-length, area-fits, long-is, area-size, size, inserted-is}
 use Rattle.render.proofs.insert_words.Statement.{statement}
 use Rattle.render.proofs.insert_words.Tie as tie
+
+-- the writes before the area's length is changed, and the call
+abbrev moved-at : tie.After-put-words → tie.After-move-up
+moved-at c = c .before .before .before .before .before .before .before .before
+
+abbrev call : tie.After-put-words → tie.Start
+call c = moved-at c .before .before .before .before .before
+
+-- then the area's length lies in the segment
+area-at : (c : tie.After-put-words) → (c .put-words .result + 4 < 512) × (length (c .put-words .last .1 .0) ≡ 512)
+area-at c =
+    let u = moved-at c .move-up .ensures in
+    let v = c .before .before .before .before .put-gap .ensures in
+    (area-fits (call c .pre) u v (c .put-words .ensures), long-is (call c .pre) u v (c .put-words .ensures))
 
 mul-grown : tie.Need-mul-grown
 mul-grown c = search needs
@@ -56,97 +72,45 @@ sub-segment : tie.Need-sub-segment
 sub-segment c = search needs
 
 add-segment : tie.Need-add-segment
-add-segment c =
-    let c1 = c .before .before .before in
-    let c2 = c1 .before .before .before .before in
-    let c3 = c2 .before .before .before .before in
-    let c4 = c3 .before .before .before .before .before in
-    let i = c4 .pre in
-    omega (
-      arith,
-      i .whole,
-      i .wide,
-      i .slot,
-      i .room,
-      next-is i (c3 .move-up .ensures) (c2 .put-gap .ensures)
-          (c1 .put-words .ensures),
-      long-is i (c3 .move-up .ensures) (c2 .put-gap .ensures) (c1 .put-words .ensures),
-    )
+add-segment c = let a = area-at (c .before .before .before) in omega (arith, a .0, a .1)
 
 mul-segment : tie.Need-mul-segment
-mul-segment c =
-    let c1 = c .before .before .before in
-    let c2 = c1 .before .before .before .before in
-    let c3 = c2 .before .before .before .before in
-    let c4 = c3 .before .before .before .before .before in
-    let i = c4 .pre in
-    omega (
-      arith,
-      i .whole,
-      i .wide,
-      i .slot,
-      i .room,
-      next-is i (c3 .move-up .ensures) (c2 .put-gap .ensures)
-          (c1 .put-words .ensures),
-      long-is i (c3 .move-up .ensures) (c2 .put-gap .ensures) (c1 .put-words .ensures),
-    )
+mul-segment c = let a = area-at (c .before .before .before) in omega (arith, a .0, a .1)
 
 slice-write-segment : tie.Need-slice-write-segment
-slice-write-segment c =
-    let c1 = c .before .before .before in
-    let c2 = c1 .before .before .before .before in
-    let c3 = c2 .before .before .before .before in
-    let c4 = c3 .before .before .before .before .before in
-    let i = c4 .pre in
-    omega (
-      arith,
-      i .whole,
-      i .wide,
-      i .slot,
-      i .room,
-      next-is i (c3 .move-up .ensures) (c2 .put-gap .ensures)
-          (c1 .put-words .ensures),
-      long-is i (c3 .move-up .ensures) (c2 .put-gap .ensures) (c1 .put-words .ensures),
-    )
+slice-write-segment c = let a = area-at (c .before .before .before) in omega (arith, a .0, a .1)
 
 mul-segment-2 : tie.Need-mul-segment-2
 mul-segment-2 c = search needs
 
 slice-write-segment-2 : tie.Need-slice-write-segment-2
 slice-write-segment-2 c =
-    let c1 = c .before .before .before in
-    let c2 = c1 .before .before .before .before in
-    let c3 = c2 .before .before .before .before in
-    let c4 = c3 .before .before .before .before .before in
-    let i = c4 .pre in omega (arith, i .room, area-size i (c3 .move-up .ensures) (c2 .put-gap .ensures) (c1 .put-words .ensures))
+    let x = c .before .before .before in
+    let i = call x .pre in
+    omega (arith, i .room, area-size i (moved-at x .move-up .ensures) (x .before .before .before .before .put-gap .ensures) (x .put-words .ensures))
 
 add-clear-from : tie.Need-add-clear-from
 add-clear-from c = search needs
 
 clear-from-requires : tie.Need-clear-from-requires
 clear-from-requires c κs =
-    let c1 = c .before .before .before .before in
-    let c2 = c1 .before .before .before .before in
-    let c3 = c2 .before .before .before .before in
-    let c4 = c3 .before .before .before .before .before in
-    let i = c4 .pre in omega (arith, i .room, size i (c3 .move-up .ensures) (c2 .put-gap .ensures) (c1 .put-words .ensures))
+    let x = c .before .before .before .before in
+    let i = call x .pre in
+    omega (arith, i .room, size i (moved-at x .move-up .ensures) (x .before .before .before .before .put-gap .ensures) (x .put-words .ensures))
 
 same-length : tie.Need-same-length
 same-length c =
-    let c1 = c .before .before .before .before .before .before .before in
-    let c2 = c1 .before .before .before .before in
-    let c3 = c2 .before .before .before .before in
-    let c4 = c3 .before .before .before .before .before in
-    let i = c4 .pre in c .before .before .clear-from .ensures .long ∙ size i (c3 .move-up .ensures) (c2 .put-gap .ensures)
-    (c1 .put-words .ensures) ∙ sym (i .whole)
+    let x = c .before .before .before .before .before .before .before in
+    let i = call x .pre in
+    c .before .before .clear-from .ensures .long
+    ∙ size i (moved-at x .move-up .ensures) (x .before .before .before .before .put-gap .ensures) (x .put-words .ensures)
+    ∙ sym (i .whole)
 
 returns : tie.Need-returns
 returns c =
-    let c1 = c .before .before .before .before .before .before .before in
-    let c2 = c1 .before .before .before .before in
-    let c3 = c2 .before .before .before .before in
-    let c4 = c3 .before .before .before .before .before in
-    inserted-is (c4 .pre) (c3 .move-up .ensures) (c2 .put-gap .ensures) (c1 .put-words .ensures) (c .before .before .clear-from .ensures)
+    let x = c .before .before .before .before .before .before .before in
+    inserted-is (call x .pre) (moved-at x .move-up .ensures) (x .before .before .before .before .put-gap .ensures) (x .put-words .ensures)
+    (c .before .before .clear-from .ensures)
 
 pub insert-words-spec : {M : Type 1} → statement M
 insert-words-spec =

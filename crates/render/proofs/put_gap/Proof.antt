@@ -2,7 +2,7 @@
 use borrow.Author.Needs.{needs}
 use mathlib.Core.Path.{sym}
 use denote.Ref.{now}
-use Rattle.copying.proofs.Writes.{none-written}
+use Rattle.segment.proofs.Writes.{none-written}
 use Rattle.render.proofs.Anew.{gap-array, gap-due, gap-none}
 use Rattle.render.proofs.put_gap.Statement.{statement}
 use Rattle.render.proofs.put_gap.Tie as tie

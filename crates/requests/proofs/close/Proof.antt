@@ -17,7 +17,7 @@ returns : tie.Need-returns
 unfolding serve
 returns c =
     let s = c .before .before .before .before .before in
-    rw (toZ-ofZ w32 (s .args .size) (s .fits .size)) at (c .before .before .serve .ensures)
+    rw (toZ-ofZ w32 (s .args .final-length) (s .fits .final-length)) at (c .before .before .serve .ensures)
 
 pub close-spec : {M : Type 1} → statement M
 close-spec = tie.close (tie.spec serve-requires same-length returns)

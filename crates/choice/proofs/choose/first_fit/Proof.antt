@@ -19,7 +19,7 @@ abbrev μ-loop : tie.MeasureT-loop
 -- what the links say of the segment at hand
 at-hand : (c : tie.In-loop Inv-loop μ-loop)
     → Next (c .before .loop .left) (now (c .before .before .before .before .before .before .args .words)) (c .before .loop .number)
-at-hand c = next _ _ _ (c .loop-test .taken) (c .before .loop .inv .links)
+at-hand c = next _ _ _ (c .before .before .before .before .before .before .pre) (c .loop-test .taken) (c .before .loop .inv .links)
 
 shared-slice-read-width : tie.Need-shared-slice-read-width Inv-loop μ-loop
 shared-slice-read-width c = omega (arith, c .before .before .pre .whole, c .before .before .pre .some)
@@ -50,57 +50,31 @@ loop-holds c =
     let a = c1 .args in starts (now (a .words)) (a .least) (c1 .pre .links)
 
 sub-base : tie.Need-sub-base Inv-loop μ-loop
-sub-base c =
-    let y = c .before .before .before .before .before .before .pre in
-    let v = at-hand (c) in
-    omega (arith, y .whole, y .few)
+sub-base c = let v = at-hand c in omega arith
 
 mul-base : tie.Need-mul-base Inv-loop μ-loop
-mul-base c =
-    let y = c .before .before .before .before .before .before .pre in
-    let v = at-hand (c) in
-    omega (arith, y .whole, y .few)
+mul-base c = let v = at-hand c in omega arith
 
 add-end : tie.Need-add-end Inv-loop μ-loop
-add-end c =
-    let y = c .before .before .before .before .before .before .pre in
-    let v = at-hand (c) in
-    omega (arith, y .whole, y .few)
+add-end c = let v = at-hand c in omega arith
 
 mul-fit-at : tie.Need-mul-fit-at Inv-loop μ-loop
-mul-fit-at c =
-    let y = c .before .before .before .before .before .before .pre in
-    let v = at-hand (c) in
-    omega (arith, y .whole, y .few)
+mul-fit-at c = let v = at-hand c in omega arith
 
 sub-fit-at : tie.Need-sub-fit-at Inv-loop μ-loop
-sub-fit-at c =
-    let y = c .before .before .before .before .before .before .pre in
-    let v = at-hand (c) in
-    omega (arith, y .whole, y .few)
+sub-fit-at c = let v = at-hand c in omega arith
 
 part-fit-at-start : tie.Need-part-fit-at-start Inv-loop μ-loop
-part-fit-at-start c =
-    let y = c .before .before .before .before .before .before .pre in
-    let v = at-hand (c) in
-    omega (arith, y .whole, y .few)
+part-fit-at-start c = let v = at-hand c in omega arith
 
 part-fit-at-end : tie.Need-part-fit-at-end Inv-loop μ-loop
-part-fit-at-end c =
-    let y = c .before .before .before .before .before .before .pre in
-    let v = at-hand (c) in
-    omega (arith, y .whole, y .few)
+part-fit-at-end c = let v = at-hand c in omega arith
 
 fit-at-requires : tie.Need-fit-at-requires Inv-loop μ-loop
 fit-at-requires c κs =
+    let v = at-hand (c .before) in
     let y = c .before .before .before .before .before .before .before .pre in
-    let v = at-hand (c .before) in (
-      simp (length-take, length-drop) (omega (arith, y .whole, y .few)),
-      omega arith,
-      omega (arith, y .extra),
-      v .low,
-      omega (arith, y .whole, y .few),
-    )
+    (simp (length-take, length-drop) (omega arith), omega arith, omega (arith, y .extra), v .low, v .most)
 
 enum-known-chosen : tie.Need-enum-known-chosen Inv-loop μ-loop
 enum-known-chosen c = search needs
@@ -109,34 +83,19 @@ returns : tie.Need-returns Inv-loop μ-loop
 returns c =
     let c1 = c .before .before .before in
     let c2 = c1 .before .before in
-    let c3 = c2 .before in
-    let c4 = c3 .before .before .before .before .before in
-    let a = c4 .args in
-    let l = c3 .loop in
-    let v = at-hand (c2) in
-    chosen-here (now (a .words)) (a .least) (l .left) (l .number) (l .inv) (c2 .loop-test .taken) _ (c1 .fit-at .ensures) _
-    (c .before .chosen .given .1) v
+    chosen-here (c2 .before .loop .inv) (c2 .loop-test .taken) _ (c1 .fit-at .ensures) _ (c .before .chosen .given .1) (at-hand c2)
 
 enum-told : tie.Need-enum-told Inv-loop μ-loop
 enum-told c = search needs
 
 add-number : tie.Need-add-number Inv-loop μ-loop
-add-number c =
-    let y = c .before .before .before .before .before .before .before .before .before .before .pre in
-    let v = at-hand (c .before .before .before .before) in
-    omega (arith, y .whole, y .few)
+add-number c = let v = at-hand (c .before .before .before .before) in omega arith
 
 mul-number : tie.Need-mul-number Inv-loop μ-loop
-mul-number c =
-    let y = c .before .before .before .before .before .before .before .before .before .before .pre in
-    let v = at-hand (c .before .before .before .before) in
-    omega (arith, y .whole, y .few)
+mul-number c = let v = at-hand (c .before .before .before .before) in omega arith
 
 shared-slice-read-number : tie.Need-shared-slice-read-number Inv-loop μ-loop
-shared-slice-read-number c =
-    let y = c .before .before .before .before .before .before .before .before .before .before .before .pre in
-    let v = at-hand (c .before .before .before .before .before) in
-    omega (arith, y .whole, y .few)
+shared-slice-read-number c = let v = at-hand (c .before .before .before .before .before) in omega arith
 
 cast-number : tie.Need-cast-number Inv-loop μ-loop
 cast-number c =
@@ -153,19 +112,10 @@ loop-again : tie.Need-loop-again Inv-loop μ-loop
 loop-again c =
     let c1 = c .before .before .before in
     let c2 = c1 .before .before in
-    let c3 = c2 .before in
-    let c4 = c3 .before .before .before .before .before in
-    let a = c4 .args in
-    let l = c3 .loop in
-    let v = at-hand (c2) in
-    pass-by (now (a .words)) (a .least) (l .left) (l .number) (l .inv) (c2 .loop-test .taken) _ (c1 .fit-at .ensures)
-    (c .before .enum-told .given .1) (v .rest)
+    pass-by (c2 .before .loop .inv) (c2 .loop-test .taken) _ (c1 .fit-at .ensures) (c .before .enum-told .given .1) (at-hand c2 .rest)
 
 returns-2 : tie.Need-returns-2 Inv-loop μ-loop
-returns-2 c =
-    let a = c .before .before .before .before .before .before .args in
-    let l = c .before .loop in
-    none-chosen (now (a .words)) (a .least) (l .left) (l .number) (l .inv) (c .loop-test .left)
+returns-2 c = none-chosen (c .before .loop .inv) (c .loop-test .left)
 
 pub first-fit-spec : {M : Type 1} → statement M
 first-fit-spec =

@@ -5,8 +5,8 @@ use mathlib.Core.Path.{sym, _∙_}
 use borrow.Author.Needs.{needs}
 use denote.Ref.{now}
 use Prim.Native.Nat.{_+_, _≤_}
-use Rattle.segment.proofs.Slots.{mul-less}
-use Rattle.choice.proofs.Fitting.{Fitting, starts, fits-over, fits-end, fit-hit, fit-miss}
+use Rattle.walks.proofs.Slots.{mul-less}
+use Rattle.choice.proofs.Fitting.{Fitting, starts, fit-over, fit-end, fit-hit, fit-miss}
 use Rattle.choice.proofs.choose.fit_in.Statement.{statement}
 use Rattle.choice.proofs.choose.fit_in.Tie as tie
 
@@ -48,13 +48,8 @@ is-marker-requires c κs = search needs
 
 returns : tie.Need-returns Inv-loop μ-loop
 returns c =
-    let a = c .before .before .before .before .before .before .before .args in
-    let l = c .before .before .before .before .loop in
-    let h = c .before .before .before .loop-test .taken in
-    let e =
-    fits-end (a .width) (a .number) (a .free) (a .least) (now (a .segment)) (l .left) (l .word) (l .before) (l .first)
-    (l .tentative) h (omega arith) (sym (c .before .is-marker .ensures) ∙ c .if1 .taken) in
-    record { is = e ∙ l .inv .same; stands = tt }
+    let c1 = c .before .before .before in
+    fit-end (c1 .before .loop .inv) (c1 .loop-test .taken) (c1 .before .before .before .before .pre .1) (sym (c .before .is-marker .ensures) ∙ c .if1 .taken)
 
 add-size : tie.Need-add-size Inv-loop μ-loop
 add-size c = omega (arith, slot-fits (c .before .before .before))
@@ -85,16 +80,8 @@ returns-2 c =
     let c1 = c .before .before .before .before in
     let c2 = c1 .before in
     let c3 = c2 .before .before in
-    let c4 = c3 .before in
-    let c5 = c4 .before .before .before in
-    let a = c5 .args in
-    let l = c4 .loop in
-    let h = c3 .loop-test .taken in
-    let m =
-    sym (c2 .is-marker .ensures) ∙ c1 .if1 .left in
-    fit-hit (a .width) (a .number) (a .free) (a .least) (now (a .segment)) (l .left) (l .word) (l .before) (l .first)
-    (l .tentative) (l .inv) h (omega arith) m (sym (c .before .before .is-fit .ensures) ∙ c .before .if2 .taken) _
-    (c .cost-after .ensures)
+    fit-hit (c3 .before .loop .inv) (c3 .loop-test .taken) (c3 .before .before .before .before .pre .1) (sym (c2 .is-marker .ensures) ∙ c1 .if1 .left)
+    (sym (c .before .before .is-fit .ensures) ∙ c .before .if2 .taken) _ (c .cost-after .ensures)
 
 cast-first-2 : tie.Need-cast-first-2 Inv-loop μ-loop
 cast-first-2 c =
@@ -127,25 +114,12 @@ loop-again c =
     let c2 = c1 .before in
     let c3 = c2 .before in
     let c4 = c3 .before .before in
-    let c5 = c4 .before in
-    let c6 = c5 .before .before .before in
-    let a = c6 .args in
-    let l = c5 .loop in
-    let h = c4 .loop-test .taken in
-    let m =
-    sym (c3 .is-marker .ensures) ∙ c2 .if1 .left in
-    fit-miss (a .width) (a .number) (a .free) (a .least) (now (a .segment)) (l .left) (l .word) (l .before) (l .first)
-    (l .tentative) (l .inv) h (omega arith) m (sym (c .before .before .is-fit .ensures) ∙ c .before .if2 .left)
-    (omega (arith, c1 .shared-slice-known4 .given (l .word + 4))) _ (c .is-tentative .ensures)
+    fit-miss (c4 .before .loop .inv) (c4 .loop-test .taken) (c4 .before .before .before .before .pre .1) (sym (c3 .is-marker .ensures) ∙ c2 .if1 .left)
+    (sym (c .before .before .is-fit .ensures) ∙ c .before .if2 .left)
+    (omega (arith, c1 .shared-slice-known4 .given (c4 .before .loop .word + 4))) _ (c .is-tentative .ensures)
 
 returns-3 : tie.Need-returns-3 Inv-loop μ-loop
-returns-3 c =
-    let a = c .before .before .before .before .args in
-    let l = c .before .loop in
-    let e =
-    fits-over (a .width) (a .number) (a .free) (a .least) (now (a .segment)) (l .left) (l .word) (l .before) (l .first)
-    (l .tentative) (c .loop-test .left) in
-    record { is = e ∙ l .inv .same; stands = tt }
+returns-3 c = fit-over (c .before .loop .inv) (c .loop-test .left)
 
 pub fit-in-spec : {M : Type 1} → statement M
 fit-in-spec =

@@ -5,34 +5,36 @@ use native.Mathlib.Omega.{arith}
 use mathlib.Core.Path.{sym, _∙_}
 use denote.Ref.{now}
 use Prim.Native.Nat.{_+_, _≤_}
-use Rattle.segment.proofs.Slots.{mul-less}
-use Rattle.choice.proofs.Longs.{Looking, looking, look-over, look-end, look-found, look-on}
+use Rattle.meaning.specs.Words.{slots, upto}
+use Rattle.meaning.specs.Sound.{any}
+use Rattle.segment.proofs.Looking.{Looking, looking, look-over, look-fits, look-end, look-found, look-on}
+use Rattle.choice.specs.Judged.{longEntry}
+use Rattle.choice.proofs.Longs.{longTest, long-found, any-before}
 use Rattle.choice.proofs.choose.has_long.Statement.{statement}
 use Rattle.choice.proofs.choose.has_long.Tie as tie
 
 abbrev Inv-loop : tie.InvT-loop
-Inv-loop segment width least left₀ word₀ left word = Looking segment width least left word
+Inv-loop segment width least left₀ word₀ left word =
+    Looking (longTest least) segment width left word 0 (any (longEntry least) (upto (slots width segment)))
 
 abbrev μ-loop : tie.MeasureT-loop
 μ-loop segment width least left₀ word₀ left word = left
 
 -- the slot at hand lies in the segment
 slot-fits : (c : tie.In-loop Inv-loop μ-loop) → c .before .loop .word + c .before .before .before .args .width ≤ 512
-slot-fits c =
-    let l = c .before .loop in
-    omega (arith, l .inv .place, mul-less (l .left) (c .before .before .before .args .width) (c .loop-test .taken))
+slot-fits c = omega (arith, look-fits (c .before .loop .inv) (c .loop-test .taken))
 
 div-left : tie.Need-div-left Inv-loop μ-loop
 div-left c = omega (arith, c .before .pre .1)
 
 loop-holds : tie.Need-loop-holds Inv-loop μ-loop
-loop-holds c = let a = c .before .args in looking (now (a .segment)) (a .width) (a .least)
+loop-holds c = let a = c .before .args in looking (longTest (a .least)) (now (a .segment)) (a .width) 0 _ (long-found (a .least) _ _)
 
 mul-status : tie.Need-mul-status Inv-loop μ-loop
 mul-status c = omega (arith, slot-fits c)
 
 shared-slice-read-status : tie.Need-shared-slice-read-status Inv-loop μ-loop
-shared-slice-read-status c = omega (arith, slot-fits (c .before), c .before .before .before .before .pre .0)
+shared-slice-read-status c = omega (arith, slot-fits (c .before))
 
 is-marker-requires : tie.Need-is-marker-requires Inv-loop μ-loop
 is-marker-requires c κs = search needs
@@ -40,32 +42,17 @@ is-marker-requires c κs = search needs
 returns : tie.Need-returns Inv-loop μ-loop
 returns c =
     let c1 = c .before .before .before in
-    let c2 = c1 .before in
-    let c3 = c2 .before .before in
-    let a = c3 .args in
-    let l = c2 .loop in
-    let h = c1 .loop-test .taken in
-    let wide = c3 .pre .1 in
-    look-end (now (a .segment)) (a .width) (a .least) (l .left) (l .word) h wide (sym (c .before .is-marker .ensures) ∙ c .if1 .taken)
-    ∙ l .inv .same
+    look-end (c1 .before .loop .inv) (c1 .loop-test .taken) (c1 .before .before .before .pre .1)
+    (sym (c .before .is-marker .ensures) ∙ c .if1 .taken)
 
 add-is-long : tie.Need-add-is-long Inv-loop μ-loop
-add-is-long c =
-    let c1 = c .before .before .before in
-    let c2 = c1 .before .before .before in
-    omega (arith, slot-fits (c1), c2 .pre .1)
+add-is-long c = omega (arith, slot-fits (c .before .before .before))
 
 mul-is-long : tie.Need-mul-is-long Inv-loop μ-loop
-mul-is-long c =
-    let c1 = c .before .before .before in
-    let c2 = c1 .before .before .before in
-    omega (arith, slot-fits (c1), c2 .pre .1)
+mul-is-long c = omega (arith, slot-fits (c .before .before .before))
 
 shared-slice-read-is-long : tie.Need-shared-slice-read-is-long Inv-loop μ-loop
-shared-slice-read-is-long c =
-    let c1 = c .before .before .before .before in
-    let c2 = c1 .before .before .before in
-    omega (arith, slot-fits (c1), c2 .pre .0, c2 .pre .1)
+shared-slice-read-is-long c = omega (arith, slot-fits (c .before .before .before .before))
 
 is-long-requires : tie.Need-is-long-requires Inv-loop μ-loop
 is-long-requires c κs = search needs
@@ -75,14 +62,8 @@ returns-2 c =
     let c1 = c .before .before .before in
     let c2 = c1 .before in
     let c3 = c2 .before .before in
-    let c4 = c3 .before in
-    let c5 = c4 .before .before in
-    let a = c5 .args in
-    let l = c4 .loop in
-    let h = c3 .loop-test .taken in
-    let wide = c5 .pre .1 in
-    look-found (now (a .segment)) (a .width) (a .least) (l .left) (l .word) h wide (sym (c2 .is-marker .ensures) ∙ c1 .if1 .left)
-    (sym (c .before .is-long .ensures) ∙ c .if2 .taken) ∙ l .inv .same
+    look-found (c3 .before .loop .inv) (c3 .loop-test .taken) (c3 .before .before .before .pre .1)
+    (sym (c2 .is-marker .ensures) ∙ c1 .if1 .left) (sym (c .before .is-long .ensures) ∙ c .if2 .taken)
 
 add-word : tie.Need-add-word Inv-loop μ-loop
 add-word c = omega (arith, slot-fits (c .before .before .before .before .before .before))
@@ -98,23 +79,12 @@ loop-again c =
     let c1 = c .before .before .before in
     let c2 = c1 .before in
     let c3 = c2 .before .before in
-    let c4 = c3 .before in
-    let c5 = c4 .before .before in
-    let a = c5 .args in
-    let l = c4 .loop in
-    let h = c3 .loop-test .taken in
-    let wide = c5 .pre .1 in
-    record {
-      place = omega (arith, l .inv .place, mul-less (l .left) (a .width) h);
-      same = look-on (now (a .segment)) (a .width) (a .least) (l .left) (l .word) h wide (sym (c2 .is-marker .ensures) ∙ c1 .if1 .left)
-          (sym (c .before .is-long .ensures) ∙ c .if2 .left) ∙ l .inv .same;
-    }
+    any-before _
+    (look-on (c3 .before .loop .inv) (c3 .loop-test .taken) (c3 .before .before .before .pre .1)
+    (sym (c2 .is-marker .ensures) ∙ c1 .if1 .left) (sym (c .before .is-long .ensures) ∙ c .if2 .left))
 
 returns-3 : tie.Need-returns-3 Inv-loop μ-loop
-returns-3 c =
-    let a = c .before .before .before .args in
-    let l = c .before .loop in
-    look-over (now (a .segment)) (a .width) (a .least) (l .left) (l .word) (c .loop-test .left) ∙ l .inv .same
+returns-3 c = look-over (c .before .loop .inv) (c .loop-test .left)
 
 pub has-long-spec : {M : Type 1} → statement M
 has-long-spec =

@@ -6,7 +6,8 @@ use mathlib.Core.Path.{refl, sym, _∙_}
 use denote.Ref.{now}
 use Rattle.meaning.specs.Answers.{refuse}
 use Rattle.chain.proofs.Chains.{fault-chained}
-use Rattle.find.proofs.Behind.{first-fits, place-inside, emptied-at, emptied-none}
+use Rattle.find.proofs.Behind.{first-fits, emptied-at, emptied-none}
+use Rattle.segment.proofs.Searching.{place-inside}
 use Rattle.find.proofs.found.empty_found.Statement.{statement}
 use Rattle.find.proofs.found.empty_found.Tie as tie
 
@@ -18,15 +19,16 @@ enum-known-found c = search needs
 
 make-empty-requires : tie.Need-make-empty-requires
 make-empty-requires c κs =
-    let l = place-inside _ _ _ _ (c .before .before .found .given .1) (c .before .before .before .before .find-entry .ensures .inside) in
+    let t = c .before .before in
+    let l = place-inside _ _ _ _ (t .found .given .1) (t .before .before .find-entry .ensures .inside) in
     omega arith
 
 answered-requires : tie.Need-answered-requires
 answered-requires c κs =
-    let f = c .before .before .before .before .before .before .before in
+    let t = c .before .before .before .before .before in
+    let f = t .before .before in
     let s = f .before .before .before in
-    first-fits (s .args .v) (now (s .args .d)) (s .pre) (s .args .key) _
-    (sym (f .find-entry .ensures .is) ∙ c .before .before .before .before .before .found .given .1)
+    first-fits (s .args .v) (now (s .args .d)) (s .pre) (s .args .key) _ (sym (f .find-entry .ensures .is) ∙ t .found .given .1)
 
 enum-told : tie.Need-enum-told
 enum-told c = search needs
@@ -39,9 +41,10 @@ same-length c = search needs
 
 returns : tie.Need-returns
 returns c =
-    let f = c .before .before .before .before .before .before .before .before in
+    let t = c .before .before .before .before .before .before in
+    let f = t .before .before in
     let s = f .before .before .before in
-    let e = sym (f .find-entry .ensures .is) ∙ c .before .before .before .before .before .before .found .given .1 in
+    let e = sym (f .find-entry .ensures .is) ∙ t .found .given .1 in
     rw (emptied-at (now (s .args .d)) (s .args .key) (s .args .missing) _ e)
     (record { answer = c .answered .ensures; words = c .before .before .before .make-empty .ensures })
 

@@ -7,16 +7,28 @@ use Rattle.insert.proofs.place.fresh_segment.Statement.{statement}
 use Rattle.insert.proofs.place.fresh_segment.Tie as tie
 
 mul-start : tie.Need-mul-start
-mul-start c = let h = c .before .before .pre in omega (arith, rooms (h .0) (c .before .before .args .count) (h .1))
+mul-start c =
+    let s = c .before .before in
+    let h = s .pre in
+    omega (arith, rooms (h .0) (s .args .count) (h .1))
 
 add-start : tie.Need-add-start
-add-start c = let h = c .before .before .pre in omega (arith, rooms (h .0) (c .before .before .args .count) (h .1))
+add-start c =
+    let s = c .before .before in
+    let h = s .pre in
+    omega (arith, rooms (h .0) (s .args .count) (h .1))
 
 mul-stop : tie.Need-mul-stop
-mul-stop c = let h = c .before .before .pre in omega (arith, rooms (h .0) (c .before .before .args .count) (h .1))
+mul-stop c =
+    let s = c .before .before in
+    let h = s .pre in
+    omega (arith, rooms (h .0) (s .args .count) (h .1))
 
 add-stop : tie.Need-add-stop
-add-stop c = let h = c .before .before .pre in omega (arith, rooms (h .0) (c .before .before .args .count) (h .1))
+add-stop c =
+    let s = c .before .before in
+    let h = s .pre in
+    omega (arith, rooms (h .0) (s .args .count) (h .1))
 
 shared-slice-read-first : tie.Need-shared-slice-read-first
 shared-slice-read-first c = search needs
@@ -29,101 +41,87 @@ sum-lengths-requires c κs = let h = c .before .before .before .pre .0 in (h .sl
 
 add-first : tie.Need-add-first
 add-first c =
-    let c1 = c .before .before .before .before in
-    omega (arith, first-small (c1 .pre .0) (c .sum-lengths .result) (c .sum-lengths .ensures))
+    let s = c .before .before .before .before in
+    omega (arith, first-small (s .pre .0) (c .sum-lengths .result) (c .sum-lengths .ensures))
 
-shared-slice-read-t15 : tie.Need-shared-slice-read-t15
-shared-slice-read-t15 c = search needs
+shared-slice-read-t16 : tie.Need-shared-slice-read-t16
+shared-slice-read-t16 c = search needs
 
-cast-t18 : tie.Need-cast-t18
-cast-t18 c =
-    let c1 = c .before .before .before .before .before in
-    omega (arith, first-small (c1 .pre .0) (c .before .sum-lengths .result) (c .before .sum-lengths .ensures))
+cast-t19 : tie.Need-cast-t19
+cast-t19 c =
+    let s = c .before .before .before .before .before in
+    omega (arith, first-small (s .pre .0) (c .before .sum-lengths .result) (c .before .sum-lengths .ensures))
+
+mul-slots : tie.Need-mul-slots
+mul-slots c =
+    let s = c .before .before .before .before .before in
+    let h = s .pre in
+    omega (arith, rooms (h .0) (s .args .count) (h .1))
+
+sub-slots : tie.Need-sub-slots
+sub-slots c =
+    let s = c .before .before .before .before .before in
+    let h = s .pre in
+    omega (arith, rooms (h .0) (s .args .count) (h .1))
+
+part-slots-start : tie.Need-part-slots-start
+part-slots-start c =
+    let s = c .before .before .before .before .before in
+    let h = s .pre in
+    omega (arith, rooms (h .0) (s .args .count) (h .1))
+
+part-slots-end : tie.Need-part-slots-end
+part-slots-end c =
+    let s = c .before .before .before .before .before in
+    let h = s .pre in
+    omega (arith, rooms (h .0) (s .args .count) (h .1))
 
 slice-aggregate-plain-segment : tie.Need-slice-aggregate-plain-segment
 slice-aggregate-plain-segment c = search needs
 
-mul-plain-segment : tie.Need-mul-plain-segment
-mul-plain-segment c =
-    let c1 = c .before .before .before .before .before .before .before .before in
-    let h = c1 .pre in omega (arith, rooms (h .0) (c1 .args .count) (h .1))
-
-sub-plain-segment : tie.Need-sub-plain-segment
-sub-plain-segment c =
-    let c1 = c .before .before .before .before .before .before .before .before in
-    let h = c1 .pre in omega (arith, rooms (h .0) (c1 .args .count) (h .1))
-
-part-plain-segment-start : tie.Need-part-plain-segment-start
-part-plain-segment-start c =
-    let c1 = c .before .before .before .before .before .before .before .before in
-    let h = c1 .pre in omega (arith, rooms (h .0) (c1 .args .count) (h .1))
-
-part-plain-segment-end : tie.Need-part-plain-segment-end
-part-plain-segment-end c =
-    let c1 = c .before .before .before .before .before .before .before .before in
-    let h = c1 .pre in omega (arith, rooms (h .0) (c1 .args .count) (h .1))
-
 plain-segment-requires : tie.Need-plain-segment-requires
 plain-segment-requires c κs =
-    let c1 = c .before .before .before .before .before .before .before .before .before in
-    let h = c1 .pre in (search needs, back-fits (h .0) (c1 .args .count) (h .1))
+    let s = c .before .before .before .before .before .before .before .before .before in
+    let h = s .pre in
+    (search needs, back-fits (h .0) (s .args .count) (h .1))
 
 returns : tie.Need-returns
 returns c =
-    let c1 = c .before .before .before in
-    let c2 = c1 .before .before .before in
-    let c3 = c2 .before .before .before .before in
-    let a = c3 .args in
-    let h = c3 .pre in
-    let s = c2 .sum-lengths in
-    fresh-plain (h .0) (a .count) (h .1) _ _ (a .total) (a .extra) (s .result) refl (s .ensures) (c1 .if1 .taken)
-    (c .plain-segment .ensures)
+    let i = c .before .before in
+    let m = i .before .before .before .before in
+    let s = m .before .before .before .before in
+    let a = s .args in
+    let h = s .pre in
+    let l = m .sum-lengths in
+    fresh-plain (h .0) (a .count) (h .1) _ _ (a .total) (a .extra) (l .result) refl (l .ensures) (i .if1 .taken) (c .plain-segment .ensures)
 
 slice-aggregate-inserted-segment : tie.Need-slice-aggregate-inserted-segment
 slice-aggregate-inserted-segment c = search needs
 
-mul-inserted-segment : tie.Need-mul-inserted-segment
-mul-inserted-segment c =
-    let c1 = c .before .before .before .before .before .before .before .before in
-    let h = c1 .pre in omega (arith, rooms (h .0) (c1 .args .count) (h .1))
-
 sub-inserted-segment : tie.Need-sub-inserted-segment
 sub-inserted-segment c =
-    let c1 = c .before .before .before .before .before .before .before .before in
-    let h = c1 .pre in omega (arith, rooms (h .0) (c1 .args .count) (h .1))
-
-part-inserted-segment-start : tie.Need-part-inserted-segment-start
-part-inserted-segment-start c =
-    let c1 = c .before .before .before .before .before .before .before .before in
-    let h = c1 .pre in omega (arith, rooms (h .0) (c1 .args .count) (h .1))
-
-part-inserted-segment-end : tie.Need-part-inserted-segment-end
-part-inserted-segment-end c =
-    let c1 = c .before .before .before .before .before .before .before .before in
-    let h = c1 .pre in omega (arith, rooms (h .0) (c1 .args .count) (h .1))
-
-sub-inserted-segment-2 : tie.Need-sub-inserted-segment-2
-sub-inserted-segment-2 c =
-    let c1 = c .before .before .before in
-    let c2 = c1 .before .before .before .before .before .before .before in
-    let k = back-before (c2 .pre .0) (c1 .if1 .left) in omega arith
+    let i = c .before .before in
+    let s = i .before .before .before .before .before .before .before .before in
+    let k = back-before (s .pre .0) (i .if1 .left) in
+    omega arith
 
 inserted-segment-requires : tie.Need-inserted-segment-requires
 inserted-segment-requires c κs =
-    let c1 = c .before .before .before in
-    let c2 = c1 .before .before .before .before .before .before .before in
-    let h = c2 .pre in let k = fresh-asks (h .0) (c2 .args .count) (h .1) (c1 .if1 .left) in (search needs, k .0, k .1)
+    let i = c .before .before in
+    let s = i .before .before .before .before .before .before .before .before in
+    let h = s .pre in
+    let k = fresh-asks (h .0) (s .args .count) (h .1) (i .if1 .left) in
+    (search needs, k .0, k .1)
 
 returns-2 : tie.Need-returns-2
 returns-2 c =
-    let c1 = c .before .before .before .before in
-    let c2 = c1 .before .before .before in
-    let c3 = c2 .before .before .before .before in
-    let a = c3 .args in
-    let h = c3 .pre in
-    let s = c2 .sum-lengths in
-    fresh-inserted (h .0) (a .count) (h .1) _ _ (a .total) (a .extra) (s .result) refl (s .ensures) (c1 .if1 .left)
-    (c .inserted-segment .ensures)
+    let i = c .before .before .before in
+    let m = i .before .before .before .before in
+    let s = m .before .before .before .before in
+    let a = s .args in
+    let h = s .pre in
+    let l = m .sum-lengths in
+    fresh-inserted (h .0) (a .count) (h .1) _ _ (a .total) (a .extra) (l .result) refl (l .ensures) (i .if1 .left) (c .inserted-segment .ensures)
 
 pub fresh-segment-spec : {M : Type 1} → statement M
 fresh-segment-spec =
@@ -137,20 +135,16 @@ fresh-segment-spec =
     cast-first
     sum-lengths-requires
     add-first
-    shared-slice-read-t15
-    cast-t18
+    shared-slice-read-t16
+    cast-t19
+    mul-slots
+    sub-slots
+    part-slots-start
+    part-slots-end
     slice-aggregate-plain-segment
-    mul-plain-segment
-    sub-plain-segment
-    part-plain-segment-start
-    part-plain-segment-end
     plain-segment-requires
     returns
     slice-aggregate-inserted-segment
-    mul-inserted-segment
     sub-inserted-segment
-    part-inserted-segment-start
-    part-inserted-segment-end
-    sub-inserted-segment-2
     inserted-segment-requires
     returns-2)

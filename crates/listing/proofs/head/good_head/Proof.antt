@@ -1,13 +1,15 @@
 -- `good_head` meets its contract: each test that fails makes the meaning's conjunction false, and the last is what is left of it.
 use borrow.Author.Needs.{needs}
 use native.Mathlib.Omega.{arith}
-use mathlib.Core.Path.{sym, _∙_}
-use lib.ListN.{length}
+use mathlib.Core.Path.{_≡_, sym, _∙_}
+use mathlib.Core.Bool.{true, _&&_}
+use lib.ListN.{length, take}
+use lib.Dec.{leb}
 use lib.Seq.{length-take-le}
 use denote.Ref.{now}
 use borrow.Author.Tests.{le-leb, lt-leb, eq-eqb, ne-eqb, not-true, not-false}
 use Rattle.names.specs.Text.{bytes}
-use Rattle.meaning.specs.Listing.{mark, goodHead, wordAt}
+use Rattle.meaning.specs.Listing.{mark, sameBytes, goodHead, wordAt}
 use Rattle.listing.proofs.head.good_head.Statement.{statement}
 use Rattle.listing.proofs.head.good_head.Tie as tie
 
@@ -32,17 +34,19 @@ slice-aggregate-same-bytes-2 c = search needs
 same-bytes-requires : tie.Need-same-bytes-requires
 same-bytes-requires c κs = search needs
 
+-- what the tests that are passed tell
+long-at : (c : tie.Else2) → let n = length (now (c .before .before .before .args .file)) in leb 7 n && leb n 31751 ≡ true
+long-at c = rw (le-leb 7 _ (c .before .if1 .left), le-leb _ 31751 (c .if2 .left))
+
+marked-at : (c : tie.Else3) → sameBytes (take 3 (now (c .before .before .before .before .before .before .before .args .file))) mark ≡ true
+unfolding mark bytes
+marked-at c = sym (c .before .same-bytes .ensures) ∙ not-false _ (c .if3 .left)
+
 returns-3 : tie.Need-returns-3
 unfolding goodHead mark bytes
 returns-3 c =
-    let file = now (c .before .before .before .before .before .before .before .args .file) in
     let s = c .before .same-bytes in
-    rw (
-      le-leb 7 (length file) (c .before .before .before .before .before .if1 .left),
-      le-leb (length file) 31751 (c .before .before .before .before .if2 .left),
-      ← s .ensures,
-      not-true (s .result) (c .if3 .taken),
-    )
+    rw (long-at (c .before .before .before .before), ← s .ensures, not-true (s .result) (c .if3 .taken))
 
 word-at-requires : tie.Need-word-at-requires
 word-at-requires c κs = search needs
@@ -50,16 +54,10 @@ word-at-requires c κs = search needs
 returns-4 : tie.Need-returns-4
 unfolding goodHead mark bytes
 returns-4 c =
-    let file = now (c .before .before .before .before .before .before .before .before .before .args .file) in
-    let s = c .before .before .before .same-bytes in
-    let w = c .before .word-at in
-    rw (
-      le-leb 7 (length file) (c .before .before .before .before .before .before .before .if1 .left),
-      le-leb (length file) 31751 (c .before .before .before .before .before .before .if2 .left),
-      ← s .ensures,
-      not-false (s .result) (c .before .before .if3 .left),
-      ne-eqb (wordAt file 3) 1 (λ e. c .if4 .taken (w .ensures .is ∙ e)),
-    )
+    let m = c .before .before in
+    let file = now (m .before .before .before .before .before .before .before .args .file) in
+    let version = ne-eqb (wordAt file 3) 1 (λ e. c .if4 .taken (c .before .word-at .ensures .is ∙ e)) in
+    rw (long-at (m .before .before .before .before), marked-at m, version)
 
 sub-result : tie.Need-sub-result
 sub-result c = search needs
@@ -67,16 +65,10 @@ sub-result c = search needs
 returns-5 : tie.Need-returns-5
 unfolding goodHead mark bytes
 returns-5 c =
-    let file = now (c .before .before .before .before .before .before .before .before .before .args .file) in
-    let s = c .before .before .before .same-bytes in
-    let w = c .before .word-at in
-    rw (
-      le-leb 7 (length file) (c .before .before .before .before .before .before .before .if1 .left),
-      le-leb (length file) 31751 (c .before .before .before .before .before .before .if2 .left),
-      ← s .ensures,
-      not-false (s .result) (c .before .before .if3 .left),
-      eq-eqb (wordAt file 3) 1 (sym (w .ensures .is) ∙ c .if4 .left),
-    )
+    let m = c .before .before in
+    let file = now (m .before .before .before .before .before .before .before .args .file) in
+    let version = eq-eqb (wordAt file 3) 1 (sym (c .before .word-at .ensures .is) ∙ c .if4 .left) in
+    rw (long-at (m .before .before .before .before), marked-at m, version)
 
 pub good-head-spec : {M : Type 1} → statement M
 good-head-spec =

@@ -30,20 +30,20 @@ enum-known-step c = search needs
 
 put-row-requires : tie.Need-put-row-requires Inv-loop μ-loop
 put-row-requires c κs =
-    shown (c .before .before .before .before .before .loop .inv) _ _
-    (sym (c .before .before .before .before .step-from .ensures) ∙ c .before .before .step .given .1)
-    (c .before .before .before .before .before .before .before .before .before .pre .1)
+    let s = c .before .before .before .before in
+    shown (s .before .loop .inv) _ _ (sym (s .step-from .ensures) ∙ c .before .before .step .given .1) (s .before .before .before .before .before .pre .1)
 
 loop-less : tie.Need-loop-less Inv-loop μ-loop
 loop-less c =
-    show-less (c .before .before .before .before .before .before .before .before .loop .inv) _ _
-    (sym (c .before .before .before .before .before .before .before .step-from .ensures) ∙ c .before .before .before .before .before .step .given .1)
+    let t = c .before .before .before .before .before in
+    let s = t .before .before in
+    show-less (s .before .loop .inv) _ _ (sym (s .step-from .ensures) ∙ t .step .given .1)
 
 loop-again : tie.Need-loop-again Inv-loop μ-loop
 loop-again c =
-    show-more (c .before .before .before .before .before .before .before .before .loop .inv) _ _
-    (sym (c .before .before .before .before .before .before .before .step-from .ensures) ∙ c .before .before .before .before .before .step .given .1)
-    (c .before .before .put-row .ensures)
+    let t = c .before .before .before .before .before in
+    let s = t .before .before in
+    show-more (s .before .loop .inv) _ _ (sym (s .step-from .ensures) ∙ t .step .given .1) (c .before .before .put-row .ensures)
 
 enum-told : tie.Need-enum-told Inv-loop μ-loop
 enum-told c = search needs

@@ -31,13 +31,14 @@ count-entry-requires : tie.Need-count-entry-requires Inv-loop μ-loop
 count-entry-requires c κs = sum-fits (c .before .before .before .before .loop .inv)
 
 loop-less : tie.Need-loop-less Inv-loop μ-loop
-loop-less c = sum-less (c .before .before .before .before .before .loop .inv) _ _ (sym (c .before .before .before .before .step-from .ensures) ∙ c .before .before .step .given .1)
+loop-less c =
+    let s = c .before .before .before .before in
+    sum-less (s .before .loop .inv) _ _ (sym (s .step-from .ensures) ∙ c .before .before .step .given .1)
 
 loop-again : tie.Need-loop-again Inv-loop μ-loop
 loop-again c =
-    sum-more (c .before .before .before .before .before .loop .inv) _ _
-    (sym (c .before .before .before .before .step-from .ensures) ∙ c .before .before .step .given .1)
-    (c .count-entry .ensures)
+    let s = c .before .before .before .before in
+    sum-more (s .before .loop .inv) _ _ (sym (s .step-from .ensures) ∙ c .before .before .step .given .1) (c .count-entry .ensures)
 
 enum-told : tie.Need-enum-told Inv-loop μ-loop
 enum-told c = search needs

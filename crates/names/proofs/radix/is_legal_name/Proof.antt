@@ -18,7 +18,9 @@ is-legal-text-requires : tie.Need-is-legal-text-requires
 is-legal-text-requires c κs = search needs
 
 returns-2 : tie.Need-returns-2
-returns-2 c = c .is-legal-text .ensures ∙ spelled-name _ _ _ _ (c .before .before .before .before .before .text-of-words .ensures) (c .before .before .if1 .left)
+returns-2 c =
+    let e = c .before .before in
+    c .is-legal-text .ensures ∙ spelled-name _ _ _ _ (e .before .before .before .text-of-words .ensures) (e .if1 .left)
 
 pub is-legal-name-spec : {M : Type 1} → statement M
 is-legal-name-spec =

@@ -33,13 +33,19 @@ loop-less : tie.Need-loop-less Inv-loop μ-loop
 loop-less c = omega arith
 
 loop-again : tie.Need-loop-again Inv-loop μ-loop
-loop-again c = (omega arith, rw (c .step .ensures) (run-next (c .before .before .before .loop .f) (now (c .before .before .before .before .before .args .bytes)) (c .before .before .before .loop .i) (c .before .before .loop-test .taken) ∙ c .before .before .before .loop .inv .1))
+loop-again c =
+    let l = c .before .before .before .loop in
+    let bytes = now (c .before .before .before .before .before .args .bytes) in
+    (omega arith, rw (c .step .ensures) (run-next (l .f) bytes (l .i) (c .before .before .loop-test .taken) ∙ l .inv .1))
 
 is-fine-requires : tie.Need-is-fine-requires Inv-loop μ-loop
 is-fine-requires c κs = search needs
 
 returns : tie.Need-returns Inv-loop μ-loop
-returns c = c .is-fine .ensures ∙ sym (run-end (c .before .before .loop .f) (now (c .before .before .before .before .args .bytes)) (c .before .before .loop .i) (c .before .loop-test .left)) ∙ c .before .before .loop .inv .1
+returns c =
+    let l = c .before .before .loop in
+    let bytes = now (c .before .before .before .before .args .bytes) in
+    c .is-fine .ensures ∙ sym (run-end (l .f) bytes (l .i) (c .before .loop-test .left)) ∙ l .inv .1
 
 pub is-padded-spec : {M : Type 1} → statement M
 is-padded-spec =

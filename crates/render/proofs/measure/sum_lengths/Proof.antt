@@ -3,7 +3,7 @@ use native.Mathlib.Omega.{arith}
 use denote.Ref.{now}
 use lib.ListN.{drop}
 use Prim.Native.Nat.{_+_, _≤_}
-use Rattle.segment.proofs.Slots.{mul-less}
+use Rattle.walks.proofs.Slots.{mul-less}
 use Rattle.render.proofs.Counting.{Summing, summing, total-more, total-none}
 use Rattle.render.proofs.measure.sum_lengths.Statement.{statement}
 use Rattle.render.proofs.measure.sum_lengths.Tie as tie

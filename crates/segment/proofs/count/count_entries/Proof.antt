@@ -5,7 +5,7 @@ use mathlib.Core.Path.{sym, _∙_}
 use borrow.Author.Needs.{needs}
 use denote.Ref.{now}
 use Prim.Native.Nat.{_+_, _≤_}
-use Rattle.segment.proofs.Slots.{mul-less}
+use Rattle.walks.proofs.Slots.{mul-less}
 use Rattle.segment.proofs.Ahead.{few-slots, Counting, counting, count-end, count-next, count-over}
 use Rattle.segment.proofs.count.count_entries.Statement.{statement}
 use Rattle.segment.proofs.count.count_entries.Tie as tie

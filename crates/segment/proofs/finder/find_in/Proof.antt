@@ -7,7 +7,7 @@ use mathlib.Core.Path.{sym, ap, _∙_}
 use denote.Ref.{now}
 use Rattle.meaning.specs.Keys.{holds}
 use Rattle.segment.specs.Finder.{foundOf}
-use Rattle.segment.proofs.Slots.{mul-less}
+use Rattle.walks.proofs.Slots.{mul-less}
 use Rattle.segment.proofs.Searching.{Searching, starts, search-end, search-hit, search-miss, search-none, hit-place}
 use Rattle.segment.proofs.finder.find_in.Statement.{statement}
 use Rattle.segment.proofs.finder.find_in.Tie as tie
@@ -78,18 +78,19 @@ shared-slice-read-t25 c = omega (arith, slot-fits (c .before .before .before .be
 
 returns-2 : tie.Need-returns-2 Inv-loop μ-loop
 returns-2 c =
-    let a = c .before .before .before .before .before .before .before .before .before .before .args in
-    let l = c .before .before .before .before .before .before .before .before .loop in
-    let h = c .before .before .before .before .before .before .before .loop-test .taken in
+    let m = c .before .before .before .before in
+    let i = m .before .before .before in
+    let a = i .before .before .before .args in
+    let l = i .before .loop in
     let e =
     search-hit (holds (a .key)) (a .width) (a .number) (now (a .segment)) (l .left) (l .word) (l .slot) (l .at) (l .block)
-    h (omega arith)
-    (sym (c .before .before .before .before .before .is-marker .ensures) ∙ c .before .before .before .before .if1 .left)
+    (i .loop-test .taken) (omega arith)
+    (sym (m .before .is-marker .ensures) ∙ m .if1 .left)
     (sym (c .before .before .before .slot-keyed .ensures) ∙ c .before .before .if2 .taken) in
     let p = hit-place (a .width) (a .number) (now (a .segment)) (l .word) (l .slot) (l .at) (l .block) (omega arith) in
     record {
       is = sym p ∙ sym (ap foundOf e) ∙ l .inv .same;
-      inside = omega (arith, slot-fits (c .before .before .before .before .before .before .before), l .inv .place);
+      inside = omega (arith, slot-fits i, l .inv .place);
     }
 
 add-block : tie.Need-add-block Inv-loop μ-loop
@@ -128,13 +129,15 @@ loop-less c = search needs
 
 loop-again : tie.Need-loop-again Inv-loop μ-loop
 loop-again c =
-    let a = c .before .before .before .before .before .before .before .before .before .args in
-    let l = c .before .before .before .before .before .before .before .loop in
-    let h = c .before .before .before .before .before .before .loop-test .taken in
+    let m = c .before .before .before in
+    let i = m .before .before .before in
+    let a = i .before .before .before .args in
+    let l = i .before .loop in
+    let h = i .loop-test .taken in
     let e =
     search-miss (holds (a .key)) (a .width) (a .number) (now (a .segment)) (l .left) (l .word) (l .slot) (l .at) (l .block)
     h (omega arith)
-    (sym (c .before .before .before .before .is-marker .ensures) ∙ c .before .before .before .if1 .left)
+    (sym (m .before .is-marker .ensures) ∙ m .if1 .left)
     (sym (c .before .before .slot-keyed .ensures) ∙ c .before .if2 .left) in
     record {
       room = omega (arith, mul-less (l .left) (a .width) h);

@@ -27,7 +27,10 @@ returns-2 : tie.Need-returns-2
 returns-2 c = rw (c .before .before .before .key2 .given .1, sym (c .before .is-tentative .ensures) ∙ not-true _ (c .if2 .taken))
 
 returns-3 : tie.Need-returns-3
-returns-3 c = rw (c .before .before .before .before .key .given .1, sym (c .before .before .is-permanent .ensures) ∙ not-false _ (c .before .if1 .left)) (c .same-name .ensures)
+returns-3 c =
+    let e = c .before in
+    rw (e .before .before .before .key .given .1, sym (e .before .is-permanent .ensures) ∙ not-false _ (e .if1 .left))
+    (c .same-name .ensures)
 
 returns-4 : tie.Need-returns-4
 returns-4 c = rw (c .before .before .before .key2 .given .1, sym (c .before .is-tentative .ensures) ∙ not-false _ (c .if2 .left))

@@ -31,9 +31,12 @@ returns-4 c = sym (end-kind _ (sym (c .before .is-marker .ensures) ∙ c .if4 .t
 
 returns-5 : tie.Need-returns-5
 returns-5 c =
-    let p = sym (c .before .before .before .before .before .before .before .is-permanent .ensures) ∙ c .before .before .before .before .before .before .if1 .left in
-    let e = sym (c .before .before .before .before .before .is-empty .ensures) ∙ c .before .before .before .before .if2 .left in
-    let t = sym (c .before .before .before .is-tentative .ensures) ∙ c .before .before .if3 .left in
+    let c3 = c .before .before in
+    let c2 = c3 .before .before in
+    let c1 = c2 .before .before in
+    let p = sym (c1 .before .is-permanent .ensures) ∙ c1 .if1 .left in
+    let e = sym (c2 .before .is-empty .ensures) ∙ c2 .if2 .left in
+    let t = sym (c3 .before .is-tentative .ensures) ∙ c3 .if3 .left in
     let m = sym (c .before .is-marker .ensures) ∙ c .if4 .left in
     sym (no-kind _ p e t m)
 

@@ -2,7 +2,7 @@
 use borrow.Author.Needs.{needs}
 use native.Mathlib.Omega.{arith}
 use denote.Ref.{now}
-use Rattle.segment.proofs.Slots.{word}
+use Rattle.walks.proofs.Words.{word}
 use Rattle.segment.proofs.naming.name_at.Statement.{statement}
 use Rattle.segment.proofs.naming.name_at.Tie as tie
 

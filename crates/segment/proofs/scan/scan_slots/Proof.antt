@@ -5,7 +5,7 @@ use native.Mathlib.Omega.{arith}
 use mathlib.Core.Path.{sym, _∙_}
 use denote.Ref.{now}
 use native.Mathlib.Nat.{div-le-self}
-use Rattle.segment.proofs.Slots.{mul-less}
+use Rattle.walks.proofs.Slots.{mul-less}
 use Rattle.segment.proofs.Scanning.{Scanning, starts, turn, no-slots, bounded}
 use Rattle.segment.specs.declared.scan.Step.the-variants.{Bad, Marker, Next}
 use Rattle.segment.proofs.scan.scan_slots.Statement.{statement}

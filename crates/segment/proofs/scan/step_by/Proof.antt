@@ -1,7 +1,8 @@
 -- `step_by` meets its contract: the first test that holds tells the kind, and then the step is that kind's.
 use borrow.Author.Needs.{needs}
-use mathlib.Core.Path.{sym, _∙_}
-use Rattle.meaning.specs.Kinds.{kindOf}
+use mathlib.Core.Path.{_≡_, sym, _∙_}
+use mathlib.Core.Bool.{false}
+use Rattle.meaning.specs.Kinds.{kindOf, isPermanent, isEmpty, isTentative}
 use Rattle.meaning.specs.Sound.{longName}
 use Rattle.walks.proofs.Told.{permanent-kind, empty-kind, tentative-kind, end-kind, no-kind}
 use Rattle.segment.proofs.Scanning.{due-bad}
@@ -16,7 +17,9 @@ named-step-requires c κs = search needs
 
 returns : tie.Need-returns
 returns c =
-    rw (permanent-kind (kindOf (c .before .before .before .args .status)) (sym (c .before .before .is-permanent .ensures) ∙ c .before .if1 .taken)) (c .named-step .ensures)
+    let t = c .before in
+    rw (permanent-kind (kindOf (t .before .before .args .status)) (sym (t .before .is-permanent .ensures) ∙ t .if1 .taken))
+    (c .named-step .ensures)
 
 is-empty-requires : tie.Need-is-empty-requires
 is-empty-requires c κs = search needs
@@ -33,30 +36,41 @@ named-step-requires-2 c κs = search needs
 
 returns-3 : tie.Need-returns-3
 returns-3 c =
-    rw (tentative-kind (kindOf (c .before .before .before .before .before .before .before .args .status)) (sym (c .before .before .is-tentative .ensures) ∙ c .before .if3 .taken)) (c .named-step2 .ensures)
+    let t = c .before in
+    let kind = kindOf (t .before .before .before .before .before .before .args .status) in
+    rw (tentative-kind kind (sym (t .before .is-tentative .ensures) ∙ t .if3 .taken)) (c .named-step2 .ensures)
+
+-- what is left after the tests for an entry
+other-at : (c : tie.Else3)
+    → let kind = kindOf (c .before .before .before .before .before .before .args .status) in
+    (isPermanent kind ≡ false) × (isEmpty kind ≡ false) × (isTentative kind ≡ false)
+other-at c =
+    let c2 = c .before .before in
+    let c1 = c2 .before .before in (
+      sym (c1 .before .is-permanent .ensures) ∙ c1 .if1 .left,
+      sym (c2 .before .is-empty .ensures) ∙ c2 .if2 .left,
+      sym (c .before .is-tentative .ensures) ∙ c .if3 .left,
+    )
 
 returns-4 : tie.Need-returns-4
 returns-4 c =
-    let p = sym (c .before .before .before .before .before .before .is-permanent .ensures) ∙ c .before .before .before .before .before .if1 .left in
-    let e = sym (c .before .before .before .before .is-empty .ensures) ∙ c .before .before .before .if2 .left in
-    let t = sym (c .before .before .is-tentative .ensures) ∙ c .before .if3 .left in
-    let s = c .before .before .before .before .before .before .before in
-    rw (c .if4 .taken) (due-bad (kindOf (s .args .status)) (longName (s .args .name)) (s .args .blocks) p e t)
+    let a = c .before .before .before .before .before .before .before .args in
+    let o = other-at (c .before) in
+    rw (c .if4 .taken) (due-bad (kindOf (a .status)) (longName (a .name)) (a .blocks) (o .0) (o .1) (o .2))
 
 is-marker-requires : tie.Need-is-marker-requires
 is-marker-requires c κs = search needs
 
 returns-5 : tie.Need-returns-5
 returns-5 c =
-    rw (end-kind (kindOf (c .before .before .before .before .before .before .before .before .before .args .status)) (sym (c .before .is-marker .ensures) ∙ c .if5 .taken), c .before .before .if4 .left)
+    let kind = kindOf (c .before .before .before .before .before .before .before .before .before .args .status) in
+    rw (end-kind kind (sym (c .before .is-marker .ensures) ∙ c .if5 .taken), c .before .before .if4 .left)
 
 returns-6 : tie.Need-returns-6
 returns-6 c =
-    let p = sym (c .before .before .before .before .before .before .before .before .is-permanent .ensures) ∙ c .before .before .before .before .before .before .before .if1 .left in
-    let e = sym (c .before .before .before .before .before .before .is-empty .ensures) ∙ c .before .before .before .before .before .if2 .left in
-    let t = sym (c .before .before .before .before .is-tentative .ensures) ∙ c .before .before .before .if3 .left in
-    let m = sym (c .before .is-marker .ensures) ∙ c .if5 .left in
-    rw (no-kind (kindOf (c .before .before .before .before .before .before .before .before .before .args .status)) p e t m)
+    let kind = kindOf (c .before .before .before .before .before .before .before .before .before .args .status) in
+    let o = other-at (c .before .before .before) in
+    rw (no-kind kind (o .0) (o .1) (o .2) (sym (c .before .is-marker .ensures) ∙ c .if5 .left))
 
 pub step-by-spec : {M : Type 1} → statement M
 step-by-spec =

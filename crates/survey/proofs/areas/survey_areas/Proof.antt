@@ -18,7 +18,7 @@ abbrev μ-loop : tie.MeasureT-loop
 -- what the links say of the segment at hand
 at-hand : (c : tie.In-loop Inv-loop μ-loop)
     → Next (c .before .loop .left) (now (c .before .before .before .before .before .before .args .words)) (c .before .loop .number)
-at-hand c = next _ _ _ (c .loop-test .taken) (c .before .loop .inv .links)
+at-hand c = next _ _ _ (c .before .before .before .before .before .before .pre .0) (c .loop-test .taken) (c .before .loop .inv .links)
 
 shared-slice-read-width : tie.Need-shared-slice-read-width Inv-loop μ-loop
 shared-slice-read-width c = omega (arith, c .before .before .pre .0 .whole, c .before .before .pre .0 .some)
@@ -51,46 +51,25 @@ loop-holds c =
     let a = c1 .args in starts (now (a .words)) (a .least) (c1 .pre .0)
 
 sub-base : tie.Need-sub-base Inv-loop μ-loop
-sub-base c =
-    let y = c .before .before .before .before .before .before .pre .0 in
-    let v = at-hand (c) in
-    omega (arith, y .whole, y .few)
+sub-base c = let v = at-hand c in omega arith
 
 mul-base : tie.Need-mul-base Inv-loop μ-loop
-mul-base c =
-    let y = c .before .before .before .before .before .before .pre .0 in
-    let v = at-hand (c) in
-    omega (arith, y .whole, y .few)
+mul-base c = let v = at-hand c in omega arith
 
 add-end : tie.Need-add-end Inv-loop μ-loop
-add-end c =
-    let y = c .before .before .before .before .before .before .pre .0 in
-    let v = at-hand (c) in
-    omega (arith, y .whole, y .few)
+add-end c = let v = at-hand c in omega arith
 
 mul-survey-segment : tie.Need-mul-survey-segment Inv-loop μ-loop
-mul-survey-segment c =
-    let y = c .before .before .before .before .before .before .pre .0 in
-    let v = at-hand (c) in
-    omega (arith, y .whole, y .few)
+mul-survey-segment c = let v = at-hand c in omega arith
 
 sub-survey-segment : tie.Need-sub-survey-segment Inv-loop μ-loop
-sub-survey-segment c =
-    let y = c .before .before .before .before .before .before .pre .0 in
-    let v = at-hand (c) in
-    omega (arith, y .whole, y .few)
+sub-survey-segment c = let v = at-hand c in omega arith
 
 part-survey-segment-start : tie.Need-part-survey-segment-start Inv-loop μ-loop
-part-survey-segment-start c =
-    let y = c .before .before .before .before .before .before .pre .0 in
-    let v = at-hand (c) in
-    omega (arith, y .whole, y .few)
+part-survey-segment-start c = let v = at-hand c in omega arith
 
 part-survey-segment-end : tie.Need-part-survey-segment-end Inv-loop μ-loop
-part-survey-segment-end c =
-    let y = c .before .before .before .before .before .before .pre .0 in
-    let v = at-hand (c) in
-    omega (arith, y .whole, y .few)
+part-survey-segment-end c = let v = at-hand c in omega arith
 
 survey-segment-requires : tie.Need-survey-segment-requires Inv-loop μ-loop
 survey-segment-requires c κs =
@@ -103,22 +82,13 @@ either-requires : tie.Need-either-requires Inv-loop μ-loop
 either-requires c κs = search needs
 
 add-number : tie.Need-add-number Inv-loop μ-loop
-add-number c =
-    let y = c .before .before .before .before .before .before .before .before .before .before .pre .0 in
-    let v = at-hand (c .before .before .before .before) in
-    omega (arith, y .whole, y .few)
+add-number c = let v = at-hand (c .before .before .before .before) in omega arith
 
 mul-number : tie.Need-mul-number Inv-loop μ-loop
-mul-number c =
-    let y = c .before .before .before .before .before .before .before .before .before .before .pre .0 in
-    let v = at-hand (c .before .before .before .before) in
-    omega (arith, y .whole, y .few)
+mul-number c = let v = at-hand (c .before .before .before .before) in omega arith
 
 shared-slice-read-number : tie.Need-shared-slice-read-number Inv-loop μ-loop
-shared-slice-read-number c =
-    let y = c .before .before .before .before .before .before .before .before .before .before .before .pre .0 in
-    let v = at-hand (c .before .before .before .before .before) in
-    omega (arith, y .whole, y .few)
+shared-slice-read-number c = let v = at-hand (c .before .before .before .before .before) in omega arith
 
 cast-number : tie.Need-cast-number Inv-loop μ-loop
 cast-number c =
@@ -135,21 +105,13 @@ loop-again : tie.Need-loop-again Inv-loop μ-loop
 loop-again c =
     let c1 = c .before .before .before in
     let c2 = c1 .before .before in
-    let c3 = c2 .before in
-    let c4 = c3 .before .before .before .before .before in
-    let a = c4 .args in
-    let l = c3 .loop in
-    let v = at-hand (c2) in
-    one-surveyed (now (a .words)) (c4 .pre .0) (l .number) (v .low) (v .high) (a .least) (l .left) (l .areas) (l .untidy) (l .inv)
-    (c2 .loop-test .taken) _ (c1 .survey-segment .ensures) _ (c .before .either .ensures)
+    let v = at-hand c2 in
+    let k = c2 .before .before .before .before .before .before .pre .0 in
+    one-surveyed _ k _ (v .low) (v .high) (c2 .before .loop .inv) (c2 .loop-test .taken) _ (c1 .survey-segment .ensures) _
+    (c .before .either .ensures)
 
 returns : tie.Need-returns Inv-loop μ-loop
-returns c =
-    let c1 = c .before .before .before .before .before .before in
-    let a = c1 .args in
-    let l = c .before .loop in
-    all-surveyed (now (a .words)) (a .least) (l .left) (l .number) (l .areas) (l .untidy) (c1 .pre .0) (l .inv)
-    (c .loop-test .left)
+returns c = all-surveyed (c .before .before .before .before .before .before .pre .0) (c .before .loop .inv) (c .loop-test .left)
 
 pub survey-areas-spec : {M : Type 1} → statement M
 survey-areas-spec =

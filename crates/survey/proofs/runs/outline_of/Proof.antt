@@ -5,9 +5,8 @@ use native.Mathlib.Omega.{arith}
 use mathlib.Core.Path.{sym, _∙_}
 use denote.Ref.{now}
 use Prim.Native.Nat.{_+_, _≤_}
-use Rattle.segment.proofs.Slots.{mul-less}
-use Rattle.survey.proofs.Walking.{sum-fits, count-over, count-end, Outlining, outlining, outline-over, outline-end, outline-on}
-use Rattle.survey.proofs.Tidied.{all-counted}
+use Rattle.walks.proofs.Slots.{mul-less}
+use Rattle.survey.proofs.Walking.{sum-fits, Outlining, outlining, outline-over, outline-end, outline-on}
 use Rattle.survey.proofs.runs.outline_of.Statement.{statement}
 use Rattle.survey.proofs.runs.outline_of.Tie as tie
 
@@ -20,9 +19,8 @@ abbrev μ-loop : tie.MeasureT-loop
 -- the slot at hand lies in the segment
 slot-fits : (c : tie.In-loop Inv-loop μ-loop) → c .before .loop .word + c .before .before .before .args .width ≤ 512
 slot-fits c =
-    let c1 = c .before .before .before in
     let l = c .before .loop in
-    omega (arith, l .inv .walks .place, mul-less (l .left) (c1 .args .width) (c .loop-test .taken))
+    omega (arith, l .inv .walks .place, mul-less (l .left) (c .before .before .before .args .width) (c .loop-test .taken))
 
 div-slots : tie.Need-div-slots Inv-loop μ-loop
 div-slots c = omega (arith, c .before .pre .wide)
@@ -34,7 +32,7 @@ mul-status : tie.Need-mul-status Inv-loop μ-loop
 mul-status c = omega (arith, slot-fits c)
 
 shared-slice-read-status : tie.Need-shared-slice-read-status Inv-loop μ-loop
-shared-slice-read-status c = omega (arith, slot-fits (c .before), c .before .before .before .before .pre .whole)
+shared-slice-read-status c = omega (arith, slot-fits (c .before))
 
 is-marker-requires : tie.Need-is-marker-requires Inv-loop μ-loop
 is-marker-requires c κs = search needs
@@ -51,22 +49,9 @@ sub-t16 c = c .before .before .before .before .before .loop .inv .within
 returns : tie.Need-returns Inv-loop μ-loop
 returns c =
     let c1 = c .before .before .before .before in
-    let c2 = c1 .before in
-    let c3 = c2 .before .before in
-    let a = c3 .args in
-    let l = c2 .loop in
-    let y = c3 .pre in
-    let g = now (a .segment) in
-    let h = c1 .loop-test .taken in
-    let o = outline-end g (a .width) (l .left) (l .word) (l .count) (l .run) (l .inv) h (y .wide)
-    (sym (c .before .before .is-marker .ensures) ∙ c .before .if1 .taken) in
-    record {
-      count =
-          rw (c .left-by .ensures .is)
-          (count-end g (a .width) (l .left) (l .word) (l .run) h (y .wide) (l .count)
-          (sym (c .before .before .is-marker .ensures) ∙ c .before .if1 .taken) ∙ l .inv .same ∙ all-counted g (a .width) y);
-      entries = o;
-    }
+    let y = c1 .before .before .before .pre in
+    outline-end (c1 .before .loop .inv) (c1 .loop-test .taken) (y .wide)
+    (sym (c .before .before .is-marker .ensures) ∙ c .before .if1 .taken) (c .left-by .ensures .is) y
 
 let-out-requires : tie.Need-let-out-requires Inv-loop μ-loop
 let-out-requires c κs = search needs
@@ -75,22 +60,13 @@ add-count : tie.Need-add-count Inv-loop μ-loop
 add-count c = omega (arith, c .before .before .before .before .before .loop .inv .few, c .let-out .ensures .few)
 
 add-run-after : tie.Need-add-run-after Inv-loop μ-loop
-add-run-after c =
-    let c1 = c .before .before .before .before in
-    let c2 = c1 .before .before .before in
-    omega (arith, slot-fits (c1), c2 .pre .wide)
+add-run-after c = omega (arith, slot-fits (c .before .before .before .before))
 
 mul-run-after : tie.Need-mul-run-after Inv-loop μ-loop
-mul-run-after c =
-    let c1 = c .before .before .before .before in
-    let c2 = c1 .before .before .before in
-    omega (arith, slot-fits (c1), c2 .pre .wide)
+mul-run-after c = omega (arith, slot-fits (c .before .before .before .before))
 
 shared-slice-read-run-after : tie.Need-shared-slice-read-run-after Inv-loop μ-loop
-shared-slice-read-run-after c =
-    let c1 = c .before .before .before .before .before in
-    let c2 = c1 .before .before .before in
-    omega (arith, slot-fits (c1), c2 .pre .wide, c2 .pre .whole)
+shared-slice-read-run-after c = omega (arith, slot-fits (c .before .before .before .before .before))
 
 run-after-requires : tie.Need-run-after-requires Inv-loop μ-loop
 run-after-requires c κs =
@@ -120,15 +96,8 @@ loop-again c =
     let c1 = c .before .before .before in
     let c2 = c1 .before in
     let c3 = c2 .before .before in
-    let c4 = c3 .before in
-    let c5 = c4 .before .before in
-    let a = c5 .args in
-    let l = c4 .loop in
-    let y = c5 .pre in
-    let g = now (a .segment) in
-    let h = c3 .loop-test .taken in
     let s = c .before .before .let-out .ensures in
-    outline-on g (a .width) (l .left) (l .word) (l .count) (l .run) (l .inv) h (y .wide) (sym (c2 .is-marker .ensures) ∙ c1 .if1 .left) _
+    outline-on (c3 .before .loop .inv) (c3 .loop-test .taken) (c3 .before .before .before .pre .wide) (sym (c2 .is-marker .ensures) ∙ c1 .if1 .left) _
     (c .run-after .ensures) _ (s .is) (s .few)
 
 left-by-requires-2 : tie.Need-left-by-requires-2 Inv-loop μ-loop
@@ -142,19 +111,7 @@ sub-t21 c = c .before .before .loop .inv .within
 
 returns-2 : tie.Need-returns-2 Inv-loop μ-loop
 returns-2 c =
-    let c1 = c .before .before .before .before in
-    let a = c1 .args in
-    let l = c .before .before .loop in
-    let y = c1 .pre in
-    let g = now (a .segment) in
-    let o = outline-over g (a .width) (l .left) (l .word) (l .count) (l .run) (l .inv) (c .before .loop-test .left) in
-    record {
-      count =
-          rw (c .left-by2 .ensures .is)
-          (count-over g (a .width) (l .left) (l .word) (l .run) (l .count) (c .before .loop-test .left) ∙ l .inv .same ∙ all-counted g
-          (a .width) y);
-      entries = o;
-    }
+    outline-over (c .before .before .loop .inv) (c .before .loop-test .left) (c .left-by2 .ensures .is) (c .before .before .before .before .pre)
 
 pub outline-of-spec : {M : Type 1} → statement M
 outline-of-spec =

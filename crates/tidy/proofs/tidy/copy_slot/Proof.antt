@@ -2,7 +2,7 @@
 use borrow.Author.Needs.{needs}
 use denote.Ref.{now}
 use native.Mathlib.Omega.{arith}
-use Rattle.copying.proofs.Writes.{slot-written}
+use Rattle.segment.proofs.Writes.{slot-written}
 use Rattle.tidy.proofs.tidy.copy_slot.Statement.{statement}
 use Rattle.tidy.proofs.tidy.copy_slot.Tie as tie
 

@@ -4,7 +4,7 @@ use denote.Ref.{now}
 use native.Mathlib.Omega.{arith}
 use lib.ListN.{length, take, drop, length-take, length-drop}
 use Prim.Native.Nat.{_<_}
-use Rattle.copying.proofs.Writes.{set-written}
+use Rattle.segment.proofs.Writes.{set-written}
 use Rattle.tidy.proofs.tidy.put_run.Statement.{statement}
 use Rattle.tidy.proofs.tidy.put_run.Tie as tie
 

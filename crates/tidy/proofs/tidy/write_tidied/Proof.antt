@@ -4,7 +4,7 @@ use borrow.Author.Needs.{needs}
 use native.Mathlib.Omega.{arith}
 use mathlib.Core.Path.{sym, _∙_}
 use denote.Ref.{now}
-use Rattle.segment.proofs.Slots.{mul-less}
+use Rattle.walks.proofs.Slots.{mul-less}
 use Rattle.segment.proofs.Ahead.{ahead-end, ahead-none}
 use Rattle.tidy.proofs.Tidying.{Tidying, starts, standing, sum-fits, goes-on, last-place, last-room, ends}
 use Rattle.tidy.proofs.tidy.write_tidied.Statement.{statement}

@@ -1,0 +1,70 @@
+-- `known` is safe and ends: each request that is looked at is one of the eight that there is room for.
+use borrow.Author.Needs.{needs}
+use Prim.Native.Nat.{_≤_, _-_}
+use Rattle.conformance.proofs.batches.known.Statement.{statement}
+use Rattle.conformance.proofs.batches.known.Tie as tie
+
+abbrev Inv-loop : tie.InvT-loop
+Inv-loop bytes state count i₀ i = (i ≤ count) × (count ≤ 8)
+
+abbrev μ-loop : tie.MeasureT-loop
+μ-loop bytes state count i₀ i = count - i
+
+returns : tie.Need-returns Inv-loop μ-loop
+returns c = search needs
+
+loop-holds : tie.Need-loop-holds Inv-loop μ-loop
+loop-holds c = search needs
+
+mul-word-at : tie.Need-mul-word-at Inv-loop μ-loop
+mul-word-at c = search needs
+
+word-at-requires : tie.Need-word-at-requires Inv-loop μ-loop
+word-at-requires c κs = search needs
+
+is-request-requires : tie.Need-is-request-requires Inv-loop μ-loop
+is-request-requires c κs = search needs
+
+sub-refused : tie.Need-sub-refused Inv-loop μ-loop
+sub-refused c = search needs
+
+mul-refused : tie.Need-mul-refused Inv-loop μ-loop
+mul-refused c = search needs
+
+refused-requires : tie.Need-refused-requires Inv-loop μ-loop
+refused-requires c κs = search needs
+
+returns-2 : tie.Need-returns-2 Inv-loop μ-loop
+returns-2 c = search needs
+
+add-i : tie.Need-add-i Inv-loop μ-loop
+add-i c = search needs
+
+loop-less : tie.Need-loop-less Inv-loop μ-loop
+loop-less c = search needs
+
+loop-again : tie.Need-loop-again Inv-loop μ-loop
+loop-again c = search needs
+
+returns-3 : tie.Need-returns-3 Inv-loop μ-loop
+returns-3 c = search needs
+
+pub known-spec : {M : Type 1} → statement M
+known-spec =
+    tie.close
+    (tie.spec
+    Inv-loop
+    μ-loop
+    returns
+    loop-holds
+    mul-word-at
+    word-at-requires
+    is-request-requires
+    sub-refused
+    mul-refused
+    refused-requires
+    returns-2
+    add-i
+    loop-less
+    loop-again
+    returns-3)

@@ -1,0 +1,148 @@
+// Type 100: a batch.
+use crate::complaints::Why;
+use crate::input::is_request;
+use crate::input::read_bytes;
+use crate::input::request_at;
+use crate::input::word_at;
+use crate::output::check_of;
+use crate::output::write_line;
+use crate::state::State;
+use crate::state::passed;
+use crate::state::refused;
+use batch::Part;
+use batch::run_some;
+use meaning::Answer;
+use meaning::Request;
+ghost use mathlib.Core.Path.{_≡_};
+ghost use Prim.Native.Nat.{_≤_};
+ghost use lib.ListN.{length};
+
+// Room for eight requests of 28 bytes.
+const ROOM: usize = 224;
+
+// Ends the run at the first request that is none of the six, unless it has ended already.
+fn known(bytes: &[u8], state: State, count: usize) -> State
+    requires { ⌜ (length (now bytes) ≡ 224) × (state .words ≤ 15872) × (count ≤ 8) ⌝ }
+    ensures { λ r. ⌜ r .words ≤ 15872 ⌝ }
+{
+    if !state.going {
+        return state;
+    }
+    let mut i = 0;
+    while i < count {
+        let number = word_at(bytes, 28 * i);
+        if !is_request(number) {
+            return refused(Why::Request, number, state, 28 * (count - i));
+        }
+        i += 1;
+    }
+    state
+}
+
+// The requests; what stands behind those of the batch is no matter, as the batch does not come to it.
+fn all_batched(bytes: &[u8]) -> [Request; 8]
+    requires { ⌜ length (now bytes) ≡ 224 ⌝ }
+{
+    [
+        request_at(bytes, 0),
+        request_at(bytes, 28),
+        request_at(bytes, 56),
+        request_at(bytes, 84),
+        request_at(bytes, 112),
+        request_at(bytes, 140),
+        request_at(bytes, 168),
+        request_at(bytes, 196),
+    ]
+}
+
+fn no_answers() -> [Answer; 8] {
+    [meaning::refused(0); 8]
+}
+
+// One answer of a batch.
+fn write_one(answer: Answer) -> bool {
+    let numbers = [
+        answer.number as u64,
+        answer.first as u64,
+        answer.length as u64,
+        answer.date as u64,
+    ];
+    write_line(b"", &numbers)
+}
+
+// The first answers of a batch, so many.
+fn write_answers(answers: [Answer; 8], count: usize) -> bool
+    requires { ⌜ count ≤ 8 ⌝ }
+{
+    let mut i = 0;
+    while i < count {
+        if !write_one(answers[i]) {
+            return false;
+        }
+        i += 1;
+    }
+    true
+}
+
+// A batch's number and the check over the directory as it now stands; its answers, where the number is 0.
+fn write_batch(words: &[u16], part: Part, count: usize) -> bool
+    requires { ⌜ count ≤ 8 ⌝ }
+{
+    let check = check_of(words);
+    if !write_line(b"batch", &[part.number as u64, check]) {
+        return false;
+    }
+    if part.number != 0 {
+        return true;
+    }
+    let answers = part.answers;
+    write_answers(answers, count)
+}
+
+// The batch on the present directory, and its lines.
+fn serve_batch(d: &mut [u16], state: State, bytes: &[u8], count: usize, room: usize) -> State
+    requires { ⌜ (length (now d) ≡ 15872) × (state .words ≤ 15872) × (length (now bytes) ≡ 224) × (count ≤ 8) ⌝ }
+    ensures { λ r. ⌜ r .words ≤ 15872 ⌝ }
+{
+    let n = state.words;
+    let part = run_some(
+        &mut d[0..n],
+        state.blocks,
+        all_batched(bytes),
+        count,
+        no_answers(),
+        room,
+    );
+    passed(state, 0, write_batch(&d[0..n], part, count))
+}
+
+// So many requests, with room for so many answers.
+fn take_requests(d: &mut [u16], state: State, count: usize, room: usize) -> State
+    requires { ⌜ (length (now d) ≡ 15872) × (state .words ≤ 15872) × (count ≤ 8) ⌝ }
+    ensures { λ r. ⌜ r .words ≤ 15872 ⌝ }
+{
+    let mut record = [0u8; ROOM];
+    let bytes = &mut record[..];
+    let read = read_bytes(&mut bytes[0..28 * count], state, false);
+    let next = known(bytes, read, count);
+    if !next.going {
+        return next;
+    }
+    serve_batch(d, next, bytes, count, room)
+}
+
+// The room for answers, how many requests there are, and the requests.
+pub(crate) fn take_batch(d: &mut [u16], state: State, head: &[u8]) -> State
+    requires { ⌜ (length (now d) ≡ 15872) × (state .words ≤ 15872) × (length (now head) ≡ 30) ⌝ }
+    ensures { λ r. ⌜ r .words ≤ 15872 ⌝ }
+{
+    let room = word_at(head, 2);
+    if room > 8 {
+        return refused(Why::Room, room, state, 4);
+    }
+    let count = word_at(head, 4);
+    if count > 8 {
+        return refused(Why::Requests, count, state, 2);
+    }
+    take_requests(d, state, count as usize, room as usize)
+}

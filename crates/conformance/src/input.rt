@@ -1,0 +1,122 @@
+// What is read: a record's bytes as words, names, numbers and requests, low byte and low word first.
+use crate::complaints::complain_of_end;
+use crate::state::State;
+use crate::state::passed;
+use crate::state::stopped;
+use libc::STDIN_FILENO;
+use meaning::Name;
+use meaning::Op;
+use meaning::Request;
+ghost use mathlib.Core.Path.{_≡_};
+ghost use Prim.Native.Nat.{_+_, _≤_};
+ghost use lib.ListN.{length};
+
+// Fills the bytes from standard input, and the run goes on behind them. Where fewer come it ends: in the midst of a record, unless it
+// is a record's first bytes that are asked for and none came.
+pub(crate) fn read_bytes(bytes: &mut [u8], state: State, is_first: bool) -> State
+    requires { ⌜ state .words ≤ 15872 ⌝ }
+    ensures { λ r. ⌜ r .words ≤ 15872 ⌝ }
+{
+    let got = io::read_full(STDIN_FILENO, bytes);
+    let next = passed(state, got, true);
+    if got == bytes.len() {
+        return next;
+    }
+    complain_of_end(is_first && got == 0, next.offset);
+    stopped()
+}
+
+fn wide_byte(byte: u8) -> u16
+    ensures { λ r. ⌜ r ≤ 255 ⌝ }
+{
+    byte as u16
+}
+
+pub(crate) fn word_at(bytes: &[u8], at: usize) -> u16
+    requires { ⌜ at + 2 ≤ length (now bytes) ⌝ }
+{
+    wide_byte(bytes[at]) + 256 * wide_byte(bytes[at + 1])
+}
+
+// A number of 32 bits.
+pub(crate) fn long_at(bytes: &[u8], at: usize) -> u32
+    requires { ⌜ at + 4 ≤ length (now bytes) ⌝ }
+{
+    word_at(bytes, at) as u32 + 65536 * (word_at(bytes, at + 2) as u32)
+}
+
+// The same in two's complement: with the highest bit set it is as far below -1 as it lacks to all ones, and `!x` is -1 - x.
+fn signed_at(bytes: &[u8], at: usize) -> i32
+    requires { ⌜ at + 4 ≤ length (now bytes) ⌝ }
+{
+    let bits = long_at(bytes, at);
+    if bits < 0x80000000 {
+        return bits as i32;
+    }
+    !((0xffffffff - bits) as i32)
+}
+
+fn name_at(bytes: &[u8], at: usize) -> Name
+    requires { ⌜ at + 6 ≤ length (now bytes) ⌝ }
+{
+    Name {
+        first: word_at(bytes, at),
+        second: word_at(bytes, at + 2),
+        extension: word_at(bytes, at + 4),
+    }
+}
+
+// The words that the first of the bytes make.
+fn words_of_bytes(bytes: &[u8], words: &mut [u16])
+    requires { ⌜ (length (now bytes) ≡ 31744) × (length (now words) ≤ 15872) ⌝ }
+{
+    for i in 0..words.len() {
+        words[i] = word_at(bytes, 2 * i);
+    }
+}
+
+// Fills the words from standard input. Where fewer than all their bytes come the run ends, and what the words are is no matter.
+pub(crate) fn read_words(words: &mut [u16], state: State) -> State
+    requires { ⌜ (length (now words) ≤ 15872) × (state .words ≤ 15872) ⌝ }
+    ensures { λ r. ⌜ r .words ≤ 15872 ⌝ }
+{
+    let mut room = [0u8; 31744];
+    let n = 2 * words.len();
+    let bytes = &mut room[..];
+    let next = read_bytes(&mut bytes[0..n], state, false);
+    words_of_bytes(bytes, words);
+    next
+}
+
+// Whether a number asks for a request.
+pub(crate) fn is_request(number: u16) -> bool {
+    1 <= number && number <= 6
+}
+
+// Which one.
+fn op_of(number: u16) -> Op {
+    match number {
+        1 => Op::Lookup,
+        2 => Op::Enter,
+        3 => Op::Close,
+        4 => Op::Abandon,
+        5 => Op::Delete,
+        _ => Op::Rename,
+    }
+}
+
+// The request of fourteen words.
+pub(crate) fn request_at(bytes: &[u8], at: usize) -> Request
+    requires { ⌜ at + 28 ≤ length (now bytes) ⌝ }
+{
+    Request {
+        op: op_of(word_at(bytes, at)),
+        name: name_at(bytes, at + 2),
+        new_name: name_at(bytes, at + 8),
+        job: word_at(bytes, at + 14),
+        channel: word_at(bytes, at + 16),
+        size: signed_at(bytes, at + 18),
+        final_length: signed_at(bytes, at + 22),
+        date: word_at(bytes, at + 26),
+    }
+}

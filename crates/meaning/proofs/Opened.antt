@@ -1,0 +1,50 @@
+-- The definitions of the meaning, module by module: a claim that opens one of these names opens all that its line names, and so can be
+-- computed. The names themselves say nothing.
+use Rattle.names.specs.Text.{bytes}
+use Rattle.names.specs.Radix.{alphabet, shown, place, codeOf, packed, packedAt, spelled, textOf, inName, inText, blank}
+use Rattle.names.specs.Radix.{padded, legalText, spells, legalName, wordsOfText, textOfWords}
+use Rattle.dates.specs.Dates.{years, monthLengths, isLeap, daysIn, inCalendar, packedDay, dayField, monthField, namesDay}
+use Rattle.dates.specs.Dates.{goodDate, wordOfDay}
+use Rattle.meaning.specs.Kinds.{kindOf}
+use Rattle.meaning.specs.Words.{segment, capacity, sameName, chunks, slots, upto, entries, total, chainFrom, reached, chain}
+use Rattle.meaning.specs.Words.{rowsIn, segmentRows, rowsOf, rows, entriesOf, allEntries}
+use Rattle.meaning.specs.Keys.{keyOf, holds, once, clash}
+use Rattle.meaning.specs.Sound.{any, bad1, bad2, times, eachOnce, differs, bad3, unmarked, longName, badName, beginsEmpty}
+use Rattle.meaning.specs.Sound.{alone, badSlots, bad4, filled, bad5, clashes, bad6, fault}
+use Rattle.meaning.specs.Answers.{refuse, success, find, fileOf, openOn, write}
+use Rattle.meaning.specs.Requests.{successWith, lookup, emptying, delete, channelLimit, goodChannel, abandon, renaming, rename}
+use Rattle.meaning.specs.Requests.{replacing, closing, finalLength, close, entryOf, flat, render, freshWords, fresh}
+use Rattle.meaning.specs.Enter.{sizeOf, joined, dropZero, tidy, withSegment, headerOf, hasRun, hasZero, untidy}
+use Rattle.meaning.specs.Enter.{tidiedAt, tidied, costAfter, hasRoom}
+use Rattle.meaning.specs.Enter.{areasIn, areas, eligibles, longestOf, without, secondOf, wanted, atLeast, longEnough, firstFit}
+use Rattle.meaning.specs.Enter.{endsTentative, kept, inserted, unsplit, split, entered, enter}
+use Rattle.meaning.specs.Batch.{serve, wordsAfter, answersTo, batch}
+
+unfoldable pub all-names : Unit {0}
+unfolding bytes alphabet shown place codeOf packed packedAt spelled textOf inName inText blank padded legalText spells legalName
+    wordsOfText textOfWords
+all-names = tt
+
+unfoldable pub all-dates : Unit {0}
+unfolding years monthLengths isLeap daysIn inCalendar packedDay dayField monthField namesDay goodDate wordOfDay
+all-dates = tt
+
+unfoldable pub all-words : Unit {0}
+unfolding kindOf segment capacity sameName chunks slots upto entries total chainFrom reached chain rowsIn segmentRows rowsOf rows
+    entriesOf allEntries keyOf holds once clash
+all-words = tt
+
+unfoldable pub all-sound : Unit {0}
+unfolding any bad1 bad2 times eachOnce differs bad3 unmarked longName badName beginsEmpty alone badSlots bad4 filled bad5 clashes bad6
+    fault
+all-sound = tt
+
+unfoldable pub all-requests : Unit {0}
+unfolding refuse success find fileOf openOn write successWith lookup emptying delete channelLimit goodChannel abandon renaming rename
+    replacing closing finalLength close entryOf flat render freshWords fresh serve wordsAfter answersTo batch
+all-requests = tt
+
+unfoldable pub all-enter : Unit {0}
+unfolding sizeOf joined dropZero tidy withSegment headerOf hasRun hasZero untidy tidiedAt tidied costAfter hasRoom areasIn areas
+    eligibles longestOf without secondOf wanted atLeast longEnough firstFit endsTentative kept inserted unsplit split entered enter
+all-enter = tt

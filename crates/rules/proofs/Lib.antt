@@ -1,0 +1,13 @@
+pub mod Rule3
+pub mod Rule4
+pub mod Rule5
+pub mod Rule6
+pub mod Sound
+pub mod Keys
+pub mod Soundness
+pub mod Grid
+pub mod Touch
+pub mod Rows
+pub mod Blocks
+pub mod Grown
+pub mod Fine

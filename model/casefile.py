@@ -1,0 +1,133 @@
+"""Writes case files (docs/CASES.md) and the lines that a right program writes for them, by the rules of rt11.py. There is nothing to run
+here: cases.py, requests.py, bench.py, evening.py and trials.py use it.
+"""
+import struct
+
+import rt11
+
+END, LOAD, FRESH, REQUEST, BATCH, CHANGE = 0, 1, 2, 3, 100, 101
+
+
+def two_words(number):
+    """A number of 32 bits, low word first, in two's complement."""
+    return number & 65_535, number >> 16 & 65_535
+
+
+def request_words(request):
+    r = request
+    return [r.op, *r.name, *r.new_name, r.job, r.channel, *two_words(r.size), *two_words(r.final_length), r.date]
+
+
+class CaseFile:
+    """The records so far, their lines, and the present directory. Each method adds a record, and answers what the model does."""
+
+    def __init__(self):
+        self.records, self.lines = [], []
+        self.words, self.v = [], 0
+
+    def load(self, words, v):
+        self.records += [LOAD, *two_words(v), len(words), *words]
+        self.words, self.v = list(words), v
+        return self.fault()
+
+    def change(self, *pairs):
+        """Some words changed, each pair a place and a word."""
+        self.records += [CHANGE, len(pairs), *(number for pair in pairs for number in pair)]
+        self.words = rt11.written(self.words, pairs)
+        return self.fault()
+
+    def fault(self):
+        number = rt11.fault(self.words, self.v)
+        self.lines.append(f"fault {number}")
+        return number
+
+    def fresh(self, extra_words):
+        self.records += [FRESH, extra_words]
+        answer, self.words = rt11.fresh(self.words, self.v, extra_words)
+        return self.answered(answer)
+
+    def serve(self, request):
+        self.records += [REQUEST, *request_words(request)]
+        answer, self.words = rt11.serve(self.words, self.v, request)
+        return self.answered(answer)
+
+    def answered(self, answer):
+        self.lines.append(f"{rt11.numbers_of(answer)} {rt11.check(self.words)}")
+        return answer
+
+    def batch(self, requests, room):
+        self.records += [BATCH, room, len(requests), *(word for request in requests for word in request_words(request))]
+        number, answers, self.words = rt11.batch(self.words, self.v, requests, room)
+        self.lines += [f"batch {number} {rt11.check(self.words)}", *map(rt11.numbers_of, answers)]
+        return number, answers
+
+    def end(self):
+        self.records.append(END)
+
+    def record_bytes(self):
+        return struct.pack(f"<{len(self.records)}H", *self.records)
+
+    def line_bytes(self):
+        return "".join(line + "\n" for line in self.lines).encode()
+
+
+# -- A case file that is there already --
+
+
+class UnknownType(Exception):
+    """A record that the model has no rule for."""
+
+
+class Reader:
+    """The words of a case file, taken from the front."""
+
+    def __init__(self, file):
+        self.words, self.at = struct.unpack(f"<{len(file) // 2}H", file), 0
+
+    def word(self):
+        return self.take(1)[0]
+
+    def take(self, count):
+        self.at += count
+        assert self.at <= len(self.words), "the file ends in the midst of a record"
+        return self.words[self.at - count : self.at]
+
+    def long(self):
+        low, high = self.take(2)
+        return low + 65_536 * high
+
+    def signed(self):
+        number = self.long()
+        return number - 2**32 if number >= 2**31 else number
+
+    def request(self):
+        op, name, new_name = self.word(), self.take(3), self.take(3)
+        job, channel = self.take(2)
+        size, final_length = self.signed(), self.signed()
+        return rt11.Request(op, name, new_name, job, channel, size, final_length, self.word())
+
+
+def run_record(case, kind, reader):
+    if kind == LOAD:
+        v, count = reader.long(), reader.word()
+        case.load(reader.take(count), v)
+    elif kind == FRESH:
+        case.fresh(reader.word())
+    elif kind == REQUEST:
+        case.serve(reader.request())
+    elif kind == BATCH:
+        room, count = reader.take(2)
+        case.batch([reader.request() for _ in range(count)], room)
+    elif kind == CHANGE:
+        case.change(*(reader.take(2) for _ in range(reader.word())))
+    else:
+        raise UnknownType(f"the model knows no record type {kind}")
+
+
+def run(file):
+    """The same case file, made by the model from its bytes, with the lines that the model gives."""
+    case, reader = CaseFile(), Reader(file)
+    while (kind := reader.word()) != END:
+        run_record(case, kind, reader)
+    case.end()
+    return case

@@ -1,0 +1,86 @@
+#!/usr/bin/env python3
+"""The case file that crates/conformance is held to, and its lines (docs/CASES.md).
+
+    python3 model/cases.py OUTSIDE.cases OUTSIDE.expected   writes crates/conformance/stdin and stdout: the outside file, then our own part
+    python3 model/cases.py --check                          tells whether both parts are what the model gives today
+    python3 model/cases.py --run FILE                       prints the lines that the model gives for a case file
+
+Our own part is the bench examples, the evening's batches, the trials and one seed of random requests. Its lines come from the model alone.
+"""
+import itertools
+import pathlib
+import sys
+
+import bench
+import casefile
+import evening
+import requests
+import trials
+
+CONFORMANCE = pathlib.Path(__file__).resolve().parent.parent / "crates" / "conformance"
+STDIN, STDOUT = CONFORMANCE / "stdin", CONFORMANCE / "stdout"
+SEED, DIRECTORIES = 1976, 150
+END_RECORD = b"\0\0"
+
+
+def own_part():
+    case = casefile.CaseFile()
+    bench.add(case)
+    evening.add(case)
+    trials.add(case)
+    requests.add(case, SEED, DIRECTORIES)
+    case.end()
+    return case
+
+
+def write(cases_path, expected_path):
+    """The outside file's last word, where it is 0, is its end record, and is left out."""
+    case = own_part()
+    outside, lines = pathlib.Path(cases_path).read_bytes(), pathlib.Path(expected_path).read_bytes()
+    STDIN.write_bytes(outside.removesuffix(END_RECORD) + case.record_bytes())
+    STDOUT.write_bytes(lines + case.line_bytes())
+
+
+def first_difference(stored, lines):
+    """The place, from 1, of the first line that is not the stored one; 0 where all are."""
+    return next((i for i, (old, new) in enumerate(itertools.zip_longest(stored, lines), 1) if old != new), 0)
+
+
+def compare(what, stored, lines):
+    line = first_difference(stored, lines)
+    if line:
+        sys.exit(f"cases.py: {what} differs in crates/conformance/stdout from what the model gives, first at its line {line}")
+    print(f"{what}: {len(lines)} lines are as the model gives them")
+
+
+def check_outside(records, lines):
+    try:
+        compare("the outside part", lines, casefile.run(records + END_RECORD).lines)
+    except casefile.UnknownType as unknown:
+        print(f"the outside part: not compared, since {unknown}")
+
+
+def check():
+    """The random requests depend on the words that the model made before them, so a changed rule can change the records too."""
+    case = own_part()
+    records, lines = STDIN.read_bytes(), STDOUT.read_text().splitlines()
+    if not records.endswith(case.record_bytes()):
+        sys.exit("cases.py: our own part in crates/conformance/stdin has other records than the model makes today")
+    compare("our own part", lines[-len(case.lines) :], case.lines)
+    check_outside(records.removesuffix(case.record_bytes()), lines[: -len(case.lines)])
+
+
+def main():
+    arguments = sys.argv[1:]
+    if arguments == ["--check"]:
+        check()
+    elif len(arguments) == 2 and arguments[0] == "--run":
+        sys.stdout.buffer.write(casefile.run(pathlib.Path(arguments[1]).read_bytes()).line_bytes())
+    elif len(arguments) == 2:
+        write(*arguments)
+    else:
+        sys.exit(__doc__)
+
+
+if __name__ == "__main__":
+    main()
