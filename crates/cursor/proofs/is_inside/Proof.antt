@@ -13,6 +13,13 @@ use Rattle.cursor.proofs.Stepping.{segment-is}
 use Rattle.cursor.proofs.is_inside.Statement.{statement}
 use Rattle.cursor.proofs.is_inside.Tie as tie
 
+-- the call, and that the cursor's segment is one of the directory's, where the first test has been passed
+abbrev start : tie.Else1 → tie.Start
+start e = e .before .before .before
+
+in-segment : (e : tie.Else1) → isSegment (now (start e .args .d)) (start e .args .cursor .seg) ≡ true
+in-segment e = sym (e .before .is-segment .ensures) ∙ not-false _ (e .if1 .left)
+
 is-segment-requires : tie.Need-is-segment-requires
 is-segment-requires c κs = search needs
 
@@ -27,18 +34,13 @@ returns c =
 returns-2 : tie.Need-returns-2
 unfolding inside
 returns-2 c =
-    let d = now (c .before .before .before .before .before .args .d) in
-    let k = c .before .before .before .before .before .args .cursor in
-    let s : isSegment d (k .seg) ≡ true = sym (c .before .before .before .is-segment .ensures) ∙ not-false _
-    (c .before .before .if1 .left) in
-    rw (s, lt-leb 1 (k .slot) (c .if2 .taken))
+    let e = c .before .before in
+    rw (in-segment e, lt-leb 1 (start e .args .cursor .slot) (c .if2 .taken))
 
 width-of-requires : tie.Need-width-of-requires
 width-of-requires c κs =
-    let d = now (c .before .before .before .before .before .args .d) in
-    let k = c .before .before .before .before .before .args .cursor in
-    let s = segment-is d (k .seg)
-    (sym (c .before .before .before .is-segment .ensures) ∙ not-false _ (c .before .before .if1 .left)) in
+    let e = c .before .before in
+    let s = segment-is (now (start e .args .d)) (start e .args .cursor .seg) (in-segment e) in
     omega arith
 
 div-if3 : tie.Need-div-if3
@@ -50,23 +52,20 @@ add-if3 c = omega (arith, div-le-self 507 (c .width-of .result))
 returns-3 : tie.Need-returns-3
 unfolding inside
 returns-3 c =
-    let d = now (c .before .before .before .before .before .before .before .before .args .d) in
-    let k = c .before .before .before .before .before .before .before .before .args .cursor in
-    let s : isSegment d (k .seg) ≡ true = sym (c .before .before .before .before .before .before .is-segment .ensures) ∙
-    not-false _ (c .before .before .before .before .before .if1 .left) in
-    let m : slotCount (slotWords d) + 1 < k .slot = rw (c .before .before .width-of .ensures) at (c .if3 .taken) in
-    rw (s, le-leb 1 (k .slot) (c .before .before .before .if2 .left), lt-leb (k .slot) (slotCount (slotWords d) + 1) m)
+    let e = c .before .before .before .before .before in
+    let n = slotCount (slotWords (now (start e .args .d))) + 1 in
+    let k = start e .args .cursor .slot in
+    let m : n < k = rw (c .before .before .width-of .ensures) at (c .if3 .taken) in
+    rw (in-segment e, le-leb 1 k (c .before .before .before .if2 .left), lt-leb k n m)
 
 returns-4 : tie.Need-returns-4
 unfolding inside
 returns-4 c =
-    let d = now (c .before .before .before .before .before .before .before .before .before .args .d) in
-    let k = c .before .before .before .before .before .before .before .before .before .args .cursor in
-    let s : isSegment d (k .seg) ≡ true = sym (c .before .before .before .before .before .before .before .is-segment .ensures) ∙
-    not-false _ (c .before .before .before .before .before .before .if1 .left) in
-    let m : k .slot ≤ slotCount (slotWords d) + 1 = rw (c .before .before .before .width-of .ensures) at (c .before .if3 .left)
-    in
-    rw (s, le-leb 1 (k .slot) (c .before .before .before .before .if2 .left), le-leb (k .slot) (slotCount (slotWords d) + 1) m)
+    let e = c .before .before .before .before .before .before in
+    let n = slotCount (slotWords (now (start e .args .d))) + 1 in
+    let k = start e .args .cursor .slot in
+    let m : k ≤ n = rw (c .before .before .before .width-of .ensures) at (c .before .if3 .left) in
+    rw (in-segment e, le-leb 1 k (c .before .before .before .before .if2 .left), le-leb k n m)
 
 pub is-inside-spec : {M : Type 1} → statement M
 is-inside-spec =
