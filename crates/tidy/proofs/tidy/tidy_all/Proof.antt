@@ -3,7 +3,8 @@
 use borrow.Author.Needs.{needs}
 use denote.Ref.{now}
 use native.Mathlib.Omega.{arith}
-use Prim.Native.Nat.{_+_, _*_, _-_}
+use Prim.Native.Nat.{_+_, _*_, _-_, _≤_}
+use lib.ListN.{length}
 use Rattle.tidy.proofs.Following.{Going, starts, here, tidyable, goes-on, ends}
 use Rattle.tidy.proofs.tidy.tidy_all.Statement.{statement}
 use Rattle.tidy.proofs.tidy.tidy_all.Tie as tie
@@ -13,6 +14,18 @@ Inv-loop words₀ width left₀ number₀ words left number = Going words₀ wor
 
 abbrev μ-loop : tie.MeasureT-loop
 μ-loop words₀ width left₀ number₀ words left number = left
+
+-- the call; and in a turn the segment at hand lies in the directory
+abbrev start : tie.In-loop Inv-loop μ-loop → tie.Start Inv-loop μ-loop
+start i = i .before .before .before .before .before
+
+at-hand : (i : tie.In-loop Inv-loop μ-loop)
+    → let l = i .before .loop in (1 ≤ l .number) × (512 * l .number ≤ length (l .words)) × (length (l .words) ≤ 15872)
+at-hand i =
+    let c = start i .pre .0 in
+    let l = i .before .loop in
+    let b = here (i .loop-test .taken) c (l .inv) in
+    (b .0, b .1, omega (arith, l .inv .framed .long, c .few))
 
 slice-read-width : tie.Need-slice-read-width Inv-loop μ-loop
 slice-read-width c =
@@ -40,94 +53,42 @@ loop-holds c =
     starts (now (a .words)) (h .0) (h .1)
 
 sub-start : tie.Need-sub-start Inv-loop μ-loop
-sub-start c =
-    let h = c .before .before .before .before .before .pre in
-    let l = c .before .loop in
-    let t = c .loop-test in
-    let b = here (t .taken) (h .0) (l .inv) in
-    omega (arith, l .inv .framed .long, h .0 .few)
+sub-start c = omega (arith, at-hand c)
 
 mul-start : tie.Need-mul-start Inv-loop μ-loop
-mul-start c =
-    let h = c .before .before .before .before .before .pre in
-    let l = c .before .loop in
-    let t = c .loop-test in
-    let b = here (t .taken) (h .0) (l .inv) in
-    omega (arith, l .inv .framed .long, h .0 .few)
+mul-start c = omega (arith, at-hand c)
 
 add-end : tie.Need-add-end Inv-loop μ-loop
-add-end c =
-    let h = c .before .before .before .before .before .pre in
-    let l = c .before .loop in
-    let t = c .loop-test in
-    let b = here (t .taken) (h .0) (l .inv) in
-    omega (arith, l .inv .framed .long, h .0 .few)
+add-end c = omega (arith, at-hand c)
 
 add-next : tie.Need-add-next Inv-loop μ-loop
-add-next c =
-    let h = c .before .before .before .before .before .pre in
-    let l = c .before .loop in
-    let t = c .loop-test in
-    let b = here (t .taken) (h .0) (l .inv) in
-    omega (arith, l .inv .framed .long, h .0 .few)
+add-next c = omega (arith, at-hand c)
 
 mul-next : tie.Need-mul-next Inv-loop μ-loop
-mul-next c =
-    let h = c .before .before .before .before .before .pre in
-    let l = c .before .loop in
-    let t = c .loop-test in
-    let b = here (t .taken) (h .0) (l .inv) in
-    omega (arith, l .inv .framed .long, h .0 .few)
+mul-next c = omega (arith, at-hand c)
 
 slice-read-next : tie.Need-slice-read-next Inv-loop μ-loop
-slice-read-next c =
-    let h = c .before .before .before .before .before .before .pre in
-    let l = c .before .before .loop in
-    let t = c .before .loop-test in
-    let b = here (t .taken) (h .0) (l .inv) in
-    omega (arith, l .inv .framed .long, h .0 .few)
+slice-read-next c = omega (arith, at-hand (c .before))
 
 cast-next : tie.Need-cast-next Inv-loop μ-loop
 cast-next c = omega (arith, c .slice-known4 .given (512 * (c .before .before .loop .number - 1) + 1))
 
 mul-tidy-segment : tie.Need-mul-tidy-segment Inv-loop μ-loop
-mul-tidy-segment c =
-    let h = c .before .before .before .before .before .before .pre in
-    let l = c .before .before .loop in
-    let t = c .before .loop-test in
-    let b = here (t .taken) (h .0) (l .inv) in
-    omega (arith, l .inv .framed .long, h .0 .few)
+mul-tidy-segment c = omega (arith, at-hand (c .before))
 
 sub-tidy-segment : tie.Need-sub-tidy-segment Inv-loop μ-loop
-sub-tidy-segment c =
-    let h = c .before .before .before .before .before .before .pre in
-    let l = c .before .before .loop in
-    let t = c .before .loop-test in
-    let b = here (t .taken) (h .0) (l .inv) in
-    omega (arith, l .inv .framed .long, h .0 .few)
+sub-tidy-segment c = omega (arith, at-hand (c .before))
 
 part-tidy-segment-start : tie.Need-part-tidy-segment-start Inv-loop μ-loop
-part-tidy-segment-start c =
-    let h = c .before .before .before .before .before .before .pre in
-    let l = c .before .before .loop in
-    let t = c .before .loop-test in
-    let b = here (t .taken) (h .0) (l .inv) in
-    omega (arith, l .inv .framed .long, h .0 .few)
+part-tidy-segment-start c = omega (arith, at-hand (c .before))
 
 part-tidy-segment-end : tie.Need-part-tidy-segment-end Inv-loop μ-loop
-part-tidy-segment-end c =
-    let h = c .before .before .before .before .before .before .pre in
-    let l = c .before .before .loop in
-    let t = c .before .loop-test in
-    let b = here (t .taken) (h .0) (l .inv) in
-    omega (arith, l .inv .framed .long, h .0 .few)
+part-tidy-segment-end c = omega (arith, at-hand (c .before))
 
 tidy-segment-requires : tie.Need-tidy-segment-requires Inv-loop μ-loop
 tidy-segment-requires c κs =
-    let h = c .before .before .before .before .before .before .before .pre in
-    let l = c .before .before .before .loop in
-    let t = c .before .before .loop-test in
-    tidyable (t .taken) (h .0) (l .inv)
+    let i = c .before .before in
+    tidyable (i .loop-test .taken) (start i .pre .0) (i .before .loop .inv)
 
 sub-left : tie.Need-sub-left Inv-loop μ-loop
 sub-left c = search needs
@@ -137,11 +98,8 @@ loop-less c = search needs
 
 loop-again : tie.Need-loop-again Inv-loop μ-loop
 loop-again c =
-    let h = c .before .before .before .before .before .before .before .before .before .before .pre in
-    let l = c .before .before .before .before .before .before .loop in
-    let t = c .before .before .before .before .before .loop-test in
-    let tidied = c .before .before .tidy-segment in
-    goes-on (t .taken) (h .0) (l .inv) (tidied .ensures)
+    let i = c .before .before .before .before .before in
+    goes-on (i .loop-test .taken) (start i .pre .0) (i .before .loop .inv) (c .before .before .tidy-segment .ensures)
 
 same-length : tie.Need-same-length Inv-loop μ-loop
 same-length c = c .before .loop .inv .framed .long
