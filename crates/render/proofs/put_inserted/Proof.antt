@@ -3,7 +3,7 @@ use borrow.Author.Needs.{needs}
 use native.Mathlib.Omega.{arith}
 use mathlib.Core.Path.{_≡_, sym, ap, _∙_}
 use denote.Ref.{now}
-use Prim.Native.Nat.{_+_, _-_}
+use Prim.Native.Nat.{_+_, _-_, _<_}
 use lib.ListN.{length, take, drop, length-drop, length-set}
 use lib.Seq.{length-take-le}
 use Rattle.render.specs.Anew.{gapWords, insertedWords}
@@ -25,6 +25,32 @@ lengths c =
       ap length (rest-is (a .word) (now (a .words))) ∙ length-drop (a .word) (now (a .words)),
     )
 
+-- the writes, from the last one back to the call
+abbrev new-at : tie.After-put-words3 → tie.After-put-words2
+new-at p = p .before .before .before .before .before
+
+abbrev gap-at : tie.After-put-words2 → tie.After-put-gap
+gap-at p = p .before .before .before .before
+
+abbrev low-at : tie.After-put-gap → tie.After-put-words
+low-at p = p .before .before .before .before
+
+abbrev start : tie.After-put-words → tie.Start
+start p = p .before .before .before .before .before .before
+
+-- the area's length stands in the room
+all-placed : (p : tie.After-put-words3)
+    → (new-at p .put-words2 .result + 4 < length (p .put-words3 .last .1 .0))
+    × (length (p .put-words3 .last .1 .0) ≡ length (now (start (low-at (gap-at (new-at p))) .args .out)))
+all-placed p =
+    let g = gap-at (new-at p) in
+    let n = lengths (start (low-at g)) in
+    let u = low-at g .put-words .ensures in
+    let v = g .put-gap .ensures in
+    let w = new-at p .put-words2 .ensures in
+    let x = p .put-words3 .ensures in
+    (omega arith, x .long ∙ w .long ∙ v .long ∙ u .long)
+
 slice-aggregate-put-words : tie.Need-slice-aggregate-put-words
 slice-aggregate-put-words c = sym (lengths (c .before .before .before .before) .1)
 
@@ -41,12 +67,10 @@ put-gap-requires c κs =
 
 put-words-requires-2 : tie.Need-put-words-requires-2
 put-words-requires-2 c κs =
-    let c1 = c .before .before .before in
-    let c2 = c1 .before .before .before .before in
-    let c3 = c2 .before .before .before .before .before .before in
-    let n = lengths (c3) in
-    let u = c2 .put-words .ensures in
-    let v = c1 .put-gap .ensures in
+    let g = c .before .before .before in
+    let n = lengths (start (low-at g)) in
+    let u = low-at g .put-words .ensures in
+    let v = g .put-gap .ensures in
     omega arith
 
 mul-put-words : tie.Need-mul-put-words
@@ -63,14 +87,13 @@ part-put-words-end c = search needs
 
 put-words-requires-3 : tie.Need-put-words-requires-3
 put-words-requires-3 c κs =
-    let c1 = c .before .before .before .before in
-    let c2 = c1 .before .before .before .before in
-    let c3 = c2 .before .before .before .before in
-    let c4 = c3 .before .before .before .before .before .before in
-    let n = lengths (c4) in
-    let u = c3 .put-words .ensures in
-    let v = c2 .put-gap .ensures in
-    let w = c1 .put-words2 .ensures in
+    let w = c .before .before .before .before in
+    let g = gap-at w in
+    let f = low-at g in
+    let n = lengths (f .before .before .before .before .before .before) in
+    let u = f .put-words .ensures in
+    let v = g .put-gap .ensures in
+    let x = w .put-words2 .ensures in
     omega arith
 
 add-out : tie.Need-add-out
@@ -93,56 +116,26 @@ add-out-2 c = search needs
 
 mul-out-2 : tie.Need-mul-out-2
 mul-out-2 c =
-    let c1 = c .before .before .before .before in
-    let c2 = c1 .before .before .before .before .before in
-    let c3 = c2 .before .before .before .before in
-    let c4 = c3 .before .before .before .before in
-    let c5 = c4 .before .before .before .before .before .before in
-    let n = lengths (c5) in
-    let u = c4 .put-words .ensures in
-    let v = c3 .put-gap .ensures in
-    let w = c2 .put-words2 .ensures in
-    let x = c1 .put-words3 .ensures in
-    omega arith
+    let p = c .before .before .before .before in
+    let s : tie.Start = start (low-at (gap-at (new-at p))) in
+    omega (arith, all-placed p .0, all-placed p .1)
 
 slice-write-out : tie.Need-slice-write-out
-slice-write-out c =
-    let c1 = c .before .before .before .before in
-    let c2 = c1 .before .before .before .before .before in
-    let c3 = c2 .before .before .before .before in
-    let c4 = c3 .before .before .before .before in
-    let c5 = c4 .before .before .before .before .before .before in
-    let n = lengths (c5) in
-    let u = c4 .put-words .ensures in
-    let v = c3 .put-gap .ensures in
-    let w = c2 .put-words2 .ensures in
-    let x = c1 .put-words3 .ensures in
-    omega arith
+slice-write-out c = let p = c .before .before .before .before in omega (arith, all-placed p .0, all-placed p .1)
 
 same-length : tie.Need-same-length
-same-length c =
-    let c1 = c .before .before .before .before in
-    let c2 = c1 .before .before .before .before .before in
-    let c3 = c2 .before .before .before .before in
-    let c4 = c3 .before .before .before .before in
-    simp length-set (c1 .put-words3 .ensures .long ∙ c2 .put-words2 .ensures .long ∙ c3 .put-gap .ensures .long
-    ∙ c4 .put-words .ensures .long)
+same-length c = simp length-set (all-placed (c .before .before .before .before) .1)
 
 returns : tie.Need-returns
 returns c =
-    let c1 = c .before .before .before .before in
-    let c2 = c1 .before .before .before .before .before in
-    let c3 = c2 .before .before .before .before in
-    let c4 = c3 .before .before .before .before in
-    let c5 = c4 .before .before .before .before .before .before in
-    let a = c5 .args in
-    let u = c4 .put-words .ensures in
-    let v = c3 .put-gap .ensures in
-    let w = c2 .put-words2 .ensures in
-    let x = c1 .put-words3 .ensures in
-    let n = lengths (c5) in
-    let h = c5 .pre .0 in
-    inserted-written (a .word) (a .cost) (now (a .new)) (now (a .words)) (omega arith) (h .wide) (h .slot) u v w x (omega arith)
+    let p = c .before .before .before .before in
+    let g = gap-at (new-at p) in
+    let s = start (low-at g) in
+    let a = s .args in
+    let h = s .pre .0 in
+    let n = lengths s in
+    inserted-written (a .word) (a .cost) (now (a .new)) (now (a .words)) (omega arith) (h .wide) (h .slot) (low-at g .put-words .ensures)
+    (g .put-gap .ensures) (new-at p .put-words2 .ensures) (p .put-words3 .ensures) (omega arith)
 
 pub put-inserted-spec : {M : Type 1} → statement M
 put-inserted-spec =
