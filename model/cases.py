@@ -5,7 +5,8 @@
     python3 model/cases.py --check                          tells whether both parts are what the model gives today
     python3 model/cases.py --run FILE                       prints the lines that the model gives for a case file
 
-Our own part is the bench examples, the evening's batches, the trials and one seed of random requests. Its lines come from the model alone.
+Our own part is the bench examples, the evening's batches, the channels, the trials and one seed of random requests. Its lines come from the
+model alone.
 """
 import itertools
 import pathlib
@@ -13,6 +14,7 @@ import sys
 
 import bench
 import casefile
+import channels
 import evening
 import requests
 import trials
@@ -27,6 +29,7 @@ def own_part():
     case = casefile.CaseFile()
     bench.add(case)
     evening.add(case)
+    channels.add(case)
     trials.add(case)
     requests.add(case, SEED, DIRECTORIES)
     case.end()

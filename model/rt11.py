@@ -1,4 +1,5 @@
-"""Document 01's rules in plain Python, written from its text alone. One function is one sentence of the document, as far as that goes.
+"""The rules of document 01, and of document 02 where a comment says so, in plain Python, written from their text alone. One function is one
+sentence of a document, as far as that goes.
 
 A directory is a list of words, and V a number. A request answers a pair: its answer, and the words afterwards. The rules of names and dates
 are in names.py. There is nothing to run here: cases.py and requests.py make case files by these rules, sample.py a head file.
@@ -20,7 +21,7 @@ TOTAL, LINK, HIGHEST, EXTRA, FIRST = range(5)
 SEGMENT_WORDS, HEADER_WORDS, ENTRY_WORDS = 512, 5, 7
 MOST_SEGMENTS, MOST_EXTRA_WORDS = 31, 16
 MOST_BLOCKS = 65_535
-CHANNEL_LIMIT = 15
+CHANNEL_LIMIT = 255  # document 02, Req 07
 JOBS = 0, 2
 
 LOOKUP, ENTER, CLOSE, ABANDON, DELETE, RENAME = range(1, 7)

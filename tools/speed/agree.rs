@@ -31,6 +31,7 @@ fn few(random: &mut Random) -> Name {
 fn request(random: &mut Random) -> Request {
     use Op::*;
     const OPS: [Op; 12] = [Enter, Enter, Enter, Enter, Close, Close, Close, Close, Abandon, Delete, Rename, Lookup];
+    const CHANNELS: [u16; 17] = [0, 1, 2, 3, 4, 5, 6, 7, 8, 9, 10, 11, 15, 16, 254, 255, 256];
     let size = match random.below(20) {
         0 => [-3, -2, 65535, 65536][random.below(4)],
         1 => -1,
@@ -42,7 +43,7 @@ fn request(random: &mut Random) -> Request {
         name: few(random),
         new_name: few(random),
         job: [0, 2, 2, 0, 0, 0, 1][random.below(7)],
-        channel: random.below(17) as u16,
+        channel: CHANNELS[random.below(CHANNELS.len())],
         size,
         final_length: random.below(6) as i32 - (random.below(9) == 0) as i32,
         date: [0, 0, 3556, 3556, 3556, 3556, 65535, 2 * 1024 + 29 * 32 + 1][random.below(8)],

@@ -1,3 +1,4 @@
 pub mod Finals
 pub mod Tested
+pub mod Words
 pub mod Closes

@@ -162,8 +162,8 @@ fullSegment =
 
 -- the slips: a sum of V + 65,536; a tentative entry before a file, and before the marker; zero lengths, legal for every kind; H read in
 -- another segment than 1; a looped chain; one channel word or one name twice; refusals in number order, where two would apply; a close
--- over a file of the same name, which keeps its own blocks; requests that touch no file that they don't name, though it shares a name
--- word or stands next; and a split that parts no tentative entry from its area
+-- over a file of the same name, which keeps its own blocks; the highest channel of either job, a file on each; requests that touch no
+-- file that they don't name, though it shares a name word or stands next; and a split that parts no tentative entry from its area
 unfoldable pub slips : List Case
 slips =
     faulty 100 (oneSegment (file 1600 65535 ∷ file 3200 93 ∷ [])) 5
@@ -177,12 +177,14 @@ slips =
     ∷ faulty 100 (oneSegment (file 1600 10 ∷ area 10 ∷ file 1600 72 ∷ [])) 6
     ∷ faulty 65536 (anyWords 1) 1
     ∷ run 100 (oneSegment (file 1600 50 ∷ area 42 ∷ []))
-    (gets (askEnter "a        " (negsuc 1) 1 16 1) 7
-    ∷ gets (askEnter "B        " (negsuc 1) 1 16 1) 8
-    ∷ gets (askEnter "B        " (negsuc 1) 0 15 1) 9
-    ∷ gets (askEnter "B        " (pos 93) 0 15 0) 11
+    (gets (askEnter "a        " (negsuc 1) 1 256 1) 7
+    ∷ gets (askEnter "B        " (negsuc 1) 1 255 1) 8
+    ∷ gets (askEnter "B        " (negsuc 1) 0 256 1) 8
+    ∷ gets (askEnter "B        " (negsuc 1) 0 255 1) 9
+    ∷ gets (askEnter "B        " (pos 93) 2 255 0) 11
     ∷ gets (askClose 3 3 (pos 1)) 8
-    ∷ gets (askClose 2 3 (negsuc 0)) 15
+    ∷ gets (askClose 2 256 (negsuc 0)) 8
+    ∷ gets (askClose 2 255 (negsuc 0)) 15
     ∷ gets (askRename "B        " "A        ") 13
     ∷ gets (askRename "B        " "B B      ") 7
     ∷ gets (askDelete "B        ") 13
@@ -194,6 +196,14 @@ slips =
     ∷ gives (askLookup "A        ") 58 7 0
     ∷ [])
     (50 ∷ 7 ∷ 35 ∷ [])
+    ∷ run 100 (oneSegment (file 1600 50 ∷ area 42 ∷ []))
+    (gives (askEnter "B        " (pos 10) 0 255 0) 58 10 0
+    ∷ gives (askEnter "C        " (pos 10) 2 255 0) 68 10 0
+    ∷ gets (askEnter "D        " (pos 10) 0 255 0) 10
+    ∷ gives (askClose 2 255 (pos 8)) 68 8 0
+    ∷ gives (askClose 0 255 (pos 7)) 58 7 0
+    ∷ [])
+    (50 ∷ 7 ∷ 3 ∷ 8 ∷ 24 ∷ [])
     ∷ run 100 (anyWords 1)
     (gives (start 0) 8 92 0
     ∷ gives (askEnter "A     X  " (pos 10) 0 1 0) 8 10 0

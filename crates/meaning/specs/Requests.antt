@@ -41,9 +41,9 @@ delete v d name =
     onRow 13 (fileOf d name) d λ r.
     successWith r (write d (emptying r))
 
--- a job is background or foreground; a channel goes up to a limit
+-- a job is background or foreground; a channel goes up to a limit (document 02, Req 07)
 unfoldable pub channelLimit : ℕ
-channelLimit = 15
+channelLimit = 255
 
 unfoldable pub goodChannel : ℕ → ℕ → Bool
 goodChannel job channel = (eqb job 0 || eqb job 2) && leb channel channelLimit

@@ -12,7 +12,7 @@ pub const PERMANENT: u16 = 1024;
 pub const END: u16 = 2048;
 
 // The highest channel of a job.
-pub const CHANNEL_LIMIT: u16 = 15;
+pub const CHANNEL_LIMIT: u16 = 255;
 
 // What a status word says of its slot.
 pub enum Kind {

@@ -6,6 +6,9 @@ pub const EMPTY: u16 = 512;
 pub const PERMANENT: u16 = 1024;
 pub const END: u16 = 2048;
 
+/// The highest channel of a job.
+pub const CHANNEL_LIMIT: u16 = 255;
+
 /// The words of a slot.
 pub fn width_of(d: &[u16]) -> usize {
     7 + d[3] as usize / 2
@@ -55,7 +58,7 @@ pub fn is_legal_name(name: Name) -> bool {
 }
 
 pub fn is_channel(job: u16, channel: u16) -> bool {
-    (job == 0 || job == 2) && channel <= 15
+    (job == 0 || job == 2) && channel <= CHANNEL_LIMIT
 }
 
 /// Day, month and year of a date word that names a calendar day.
