@@ -1,7 +1,7 @@
 // Rule 6 in linear time: to compare all pairs of entries would be 2.4 million comparisons on a full volume. So one pass lists the
 // places of the entries that can clash, in chain order, and a second one takes that list from its end and puts each entry into a
 // bucket by its key: entries that clash meet in one bucket. (Only names chosen to share a bucket make it slow.) Throughout, `width`
-// is the words of a slot, `word` the place in a segment where a slot begins, and `place` that in the directory. AllListed entries are
+// is the words of a slot, `word` the place in a segment where a slot begins, and `place` that in the directory. The entries listed are
 // numbered from 1 at the list's end: so 0 is none, and those passed so far, the latest first, stand in chain order.
 use meaning::Key;
 use segment::finder;

@@ -1,5 +1,6 @@
 pub mod Status
 pub mod Scanning
+pub mod Named
 pub mod Searching
 pub mod Ahead
 pub mod Writes

@@ -1,21 +1,16 @@
 -- What the inner routines promise, slot by slot; no contract of a whole segment speaks of these.
 use Prim.Native.Nat.{ℕ, _+_}
-use mathlib.Core.Bool.{Bool, true, false, cond, _&&_, _||_}
+use mathlib.Core.Bool.{Bool, true, false, cond, _||_}
 use mathlib.Core.List.{List}
 use lib.ListN.{length}
-use lib.Dec.{eqb}
 use Rattle.meaning.specs.declared.Kind.{Kind}
 use Rattle.meaning.specs.declared.Kind.the-variants.{Tentative, Empty, Permanent, End, Unknown}
-use Rattle.meaning.specs.Kinds.{isTentative, isPermanent}
-use Rattle.meaning.specs.Words.{Entry, blocks, kind, sameName, upto, total}
+use Rattle.meaning.specs.Words.{Entry, blocks, kind, upto, total}
 use Rattle.walks.specs.Scan.{longNamed, scanBad}
 use Rattle.segment.specs.declared.scan.Step.{Step}
 use Rattle.segment.specs.declared.scan.Step.the-variants.{Bad, Marker, Next}
 use Rattle.segment.specs.declared.scan.Scan.{Scan}
 use Rattle.segment.specs.declared.scan.Scan.the-variants.{Fault, Sum}
-use Rattle.meaning.specs.declared.Name.{Name}
-use Rattle.meaning.specs.declared.Key.{Key}
-use Rattle.meaning.specs.declared.Key.the-variants.{File, Open}
 
 -- what a slot says, by its kind. p: a tentative entry stands directly before it; b: a name word is above 63,999; n: its length
 abbrev pub namedStep : Bool → Bool → ℕ → Bool → Step
@@ -35,8 +30,3 @@ slotStep p e = stepBy (kind e) p (longNamed e) (blocks e)
 -- the scan's answer with the slots es still ahead, after k entries of t blocks in all
 unfoldable pub scanFrom : Bool → List Entry → ℕ → ℕ → Scan
 scanFrom p es k t = cond (scanBad p es) Fault (Sum (k + length (upto es)) (t + total (upto es)))
-
--- whether a slot has a key, by its kind k, its name n and its channel word x; the key's are primed
-abbrev pub keyedBy : Key → Kind → Name → ℕ → Bool
-keyedBy (File n′) k n x = isPermanent k && sameName n n′
-keyedBy (Open x′) k n x = isTentative k && eqb x x′

@@ -1,16 +1,12 @@
 // The first entry of a segment that is looked for, with its place in the directory.
 use crate::kinds;
-use crate::naming::name_at;
-use crate::naming::same_name;
+use crate::naming::is_named;
 use meaning::Key;
-use meaning::Name;
 ghost use mathlib.Core.Path.{_≡_};
 ghost use Prim.Native.Nat.{_+_, _≤_};
 ghost use lib.ListN.{length, take, drop};
-ghost use Rattle.meaning.specs.Kinds.{kindOf};
 ghost use Rattle.meaning.specs.Keys.{holds};
 ghost use Rattle.segment.specs.Finder.{FoundIn};
-ghost use Rattle.segment.specs.Steps.{keyedBy};
 
 // Where an entry stands: its segment and slot, both counted from 1, the place of its first word in the directory, and its first
 // block; with the length and date that a request answers.
@@ -29,38 +25,31 @@ pub enum Found {
     Nothing,
 }
 
-// Whether an entry with these words has the key. The first test that fails decides, and the kind is tested first: a tentative entry
-// may have a file's name, and the channel word of a permanent one means nothing.
-pub fn is_keyed(key: Key, status: u16, name: Name, channel: u16) -> bool
-    ensures { λ r. ⌜ r ≡ keyedBy key (kindOf status) name channel ⌝ }
-{
-    match key {
-        Key::File(wanted) => {
-            if !kinds::is_permanent(status) {
-                return false;
-            }
-            same_name(name, wanted)
-        }
-        Key::Open(wanted) => {
-            if !kinds::is_tentative(status) {
-                return false;
-            }
-            channel == wanted
-        }
-    }
-}
-
-// Whether the slot that begins at this word is an entry of the key.
+// Whether the slot that begins at this word is an entry of the key; the first test that fails decides. A file is asked for its name first,
+// which differs nearly always in its first word, whereas files and areas may alternate; and then for its kind, since a tentative entry
+// may have the same name. A channel is asked for its kind first: the channel word of a permanent entry means nothing.
 pub fn slot_keyed(segment: &[u16], word: usize, width: usize, key: Key) -> bool
     requires { ⌜ (7 ≤ width) × (word + width ≤ length (now segment)) ⌝ }
     ensures { λ r. ⌜ r ≡ holds key (take width (drop word (now (segment .entry)))) ⌝ }
 {
-    let name = name_at(segment, word, width);
-    is_keyed(key, segment[word], name, segment[word + 5])
+    match key {
+        Key::File(name) => {
+            if !is_named(segment, word, width, name) {
+                return false;
+            }
+            kinds::is_permanent(segment[word])
+        }
+        Key::Open(channel) => {
+            if !kinds::is_tentative(segment[word]) {
+                return false;
+            }
+            segment[word + 5] == channel
+        }
+    }
 }
 
 // The first entry looked for in the segment of this number, whose words begin at word `base` of the directory and whose blocks
-// begin at `first`. Slots, words and blocks are counted along, so that nothing is multiplied.
+// begin at `first`. Only what each slot needs is counted along, since a search passes thousands of them.
 pub fn find_in(
     segment: &[u16],
     width: usize,
@@ -72,10 +61,9 @@ pub fn find_in(
     requires { ⌜ (length (now segment) ≡ 512) × (7 ≤ width) × (width ≤ 23) × (base ≤ 65536) × (first ≤ 65535) ⌝ }
     ensures { λ r. ⌜ FoundIn r (now (segment .entry)) width number base first key ⌝ }
 {
-    let mut left: usize = 507 / width;
+    let slots: usize = 507 / width;
+    let mut left: usize = slots;
     let mut word: usize = 5;
-    let mut slot: usize = 1;
-    let mut at: usize = base + 5;
     let mut block: usize = first;
     while 0 < left {
         if kinds::is_marker(segment[word]) {
@@ -84,16 +72,14 @@ pub fn find_in(
         if slot_keyed(segment, word, width, key) {
             return Found::At(Place {
                 seg: number,
-                slot,
-                at,
+                slot: slots - left + 1,
+                at: base + word,
                 first: block,
                 length: segment[word + 4],
                 date: segment[word + 6],
             });
         }
         block += segment[word + 4] as usize;
-        slot += 1;
-        at += width;
         word += width;
         left -= 1;
     }

@@ -1,4 +1,4 @@
-// The names of entries: read from a slot, and compared word by word up to the first that differs.
+// The names of entries: read from a slot, and compared with it.
 use meaning::Name;
 ghost use mathlib.Core.Path.{_≡_};
 ghost use Prim.Native.Nat.{_+_, _≤_};
@@ -17,15 +17,16 @@ pub fn name_at(segment: &[u16], word: usize, width: usize) -> Name
     }
 }
 
-// Whether two names are the same.
-pub fn same_name(name: Name, other: Name) -> bool
-    ensures { λ r. ⌜ r ≡ sameName name other ⌝ }
+// Whether the slot that begins at this word has this name. The first word that differs decides, and no word after it is read.
+pub fn is_named(segment: &[u16], word: usize, width: usize, name: Name) -> bool
+    requires { ⌜ (7 ≤ width) × (word + width ≤ length (now segment)) ⌝ }
+    ensures { λ r. ⌜ r ≡ sameName (nameOf (take width (drop word (now (segment .entry))))) name ⌝ }
 {
-    if name.first != other.first {
+    if segment[word + 1] != name.first {
         return false;
     }
-    if name.second != other.second {
+    if segment[word + 2] != name.second {
         return false;
     }
-    name.extension == other.extension
+    segment[word + 3] == name.extension
 }

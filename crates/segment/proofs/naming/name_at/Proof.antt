@@ -2,7 +2,7 @@
 use borrow.Author.Needs.{needs}
 use native.Mathlib.Omega.{arith}
 use denote.Ref.{now}
-use Rattle.walks.proofs.Words.{word}
+use Rattle.segment.proofs.Named.{name-words}
 use Rattle.segment.proofs.naming.name_at.Statement.{statement}
 use Rattle.segment.proofs.naming.name_at.Tie as tie
 
@@ -36,8 +36,7 @@ shared-slice-read-t15 c = search needs
 returns : tie.Need-returns
 returns c =
     let a = c .before .before .before .args in
-    let g = now (a .segment) in
-    rw (word g (a .word) (a .width) 1 (omega arith), word g (a .word) (a .width) 2 (omega arith), word g (a .word) (a .width) 3 (omega arith))
+    rw (name-words (now (a .segment)) (a .word) (a .width) (omega arith))
 
 pub name-at-spec : {M : Type 1} → statement M
 name-at-spec =
