@@ -1,12 +1,12 @@
 """Document 01's ten bench examples as records of a case file. What the document says of each is tested here against the model, so a slip
 in the model shows when the file is made. There is nothing to run here: cases.py uses it.
 """
-from names import date_word, date_of, word_of_day
+from names import word_of_day
 from rt11 import CLOSE, EMPTY, ENTER, FIRST, HIGHEST, LENGTH, LINK, LOOKUP, PERMANENT, RENAME, SEGMENT_WORDS, STATUS, TENTATIVE
 from rt11 import Request, entries, first_data_block, header, named, rendered, rows
 
 DAY, LOG = named("DAY.CHG"), named("LOG.CHG")
-DATE = date_word(date_of(15, 3, 1976))
+_number, DATE = word_of_day(15, 3, 1976)
 
 
 def expect(answer, number, first=0, length=0, date=0):

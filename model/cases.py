@@ -5,13 +5,14 @@
     python3 model/cases.py --check                          tells whether both parts are what the model gives today
     python3 model/cases.py --run FILE                       prints the lines that the model gives for a case file
 
-Our own part is the bench examples, the evening's batches, the channels, the trials and one seed of random requests. Its lines come from the
-model alone.
+Our own part is the bench examples, the evening's batches, the channels, the ages, the trials and one seed of random requests. Its lines come
+from the model alone.
 """
 import itertools
 import pathlib
 import sys
 
+import ages
 import bench
 import casefile
 import channels
@@ -30,6 +31,7 @@ def own_part():
     bench.add(case)
     evening.add(case)
     channels.add(case)
+    ages.add(case)
     trials.add(case)
     requests.add(case, SEED, DIRECTORIES)
     case.end()

@@ -1,5 +1,6 @@
 #!/usr/bin/env python3
-"""A model of document 01's "Names and dates", written from its text alone, for the program crates/spell to be held to, and for rt11.py.
+"""A model of document 01's "Names and dates", with document 02's years, written from their text alone, for the program crates/spell to be
+held to, and for rt11.py.
 
     python3 model/names.py
 
@@ -53,9 +54,8 @@ def is_legal_name(*words):
     return max(words) <= LAST_WORD and is_legal_text(b"".join(SPELLED[w] for w in words))
 
 
-# The calendar is Python's own; the table below holds every day that has a word.
-FIRST_YEAR, LAST_YEAR = 1972, 2003
-
+# Date words: the top two bits are the age, then month and day, and year = 1972 + 32 * age + the low five bits (document 02, Req 02). The
+# calendar is Python's own; the tables hold every day that has a word, by word and by day.
 
 def date_of(day, month, year):
     try:
@@ -64,24 +64,23 @@ def date_of(day, month, year):
         return None
 
 
-def date_word(date):
-    return date.month * 1024 + date.day * 32 + (date.year - FIRST_YEAR)
+def date_in(word):
+    age, month, day, low = word >> 14, word >> 10 & 15, word >> 5 & 31, word & 31
+    return date_of(day, month, 1972 + 32 * age + low)
 
 
-def all_days():
-    first, last = datetime.date(FIRST_YEAR, 1, 1), datetime.date(LAST_YEAR, 12, 31)
-    return map(datetime.date.fromordinal, range(first.toordinal(), last.toordinal() + 1))
+DATES = {word: date for word in range(65536) if (date := date_in(word))}
+DATE_WORDS = {date: word for word, date in DATES.items()}
 
-
-DATES = {date_word(day): day for day in all_days()}
+# years run 1972 to 2099, each day has one word, and with word 0 there are so many good words
+assert (min(DATE_WORDS), max(DATE_WORDS)) == (datetime.date(1972, 1, 1), datetime.date(2099, 12, 31))
+assert len(DATE_WORDS) == len(DATES) == 46_753 - 1
 
 
 def word_of_day(day, month, year):
     """The number and the word."""
     date = date_of(day, month, year)
-    if date is None or not FIRST_YEAR <= date.year <= LAST_YEAR:
-        return 9, 0
-    return 0, date_word(date)
+    return (0, DATE_WORDS[date]) if date in DATE_WORDS else (9, 0)
 
 
 def day_of_word(word):

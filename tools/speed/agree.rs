@@ -46,7 +46,7 @@ fn request(random: &mut Random) -> Request {
         channel: CHANNELS[random.below(CHANNELS.len())],
         size,
         final_length: random.below(6) as i32 - (random.below(9) == 0) as i32,
-        date: [0, 0, 3556, 3556, 3556, 3556, 65535, 2 * 1024 + 29 * 32 + 1][random.below(8)],
+        date: [0, 3556, 3556, 3556, 16384, 28150, 62463, 65535, 2 * 1024 + 29 * 32 + 1][random.below(9)],
     }
 }
 

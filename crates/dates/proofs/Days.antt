@@ -1,7 +1,7 @@
 -- Laws of date words. A calendar day's month is at most 12 and its day at most 31, which one computed test shows of the whole table
--- of month lengths; so the three fields of a day's word don't run into each other, and a word and its day give each other back.
--- Assumes nothing.
-use Prim.Native.Nat.{ℕ, _+_, _≤_, _<_}
+-- of month lengths; so the fields of a day's word don't run into each other. And they are the whole word, so that a word and its day give
+-- each other back. Assumes nothing.
+use Prim.Native.Nat.{ℕ, _+_, _*_, _-_, _/_, _%_, _≤_, _<_}
 use native.Mathlib.Omega.{arith}
 use mathlib.Core.Path.{_≡_, refl}
 use mathlib.Core.Bool.{Bool, true, false, cond, _&&_, or-true}
@@ -76,24 +76,42 @@ pub fields : (d m y : ℕ) → inCalendar d m y ≡ true → Fields d m y
 unfolding dayField monthField packedDay years
 fields d m y h =
     let c = calendar-parts d m y h in
-    let p = c .from in
-    let q = c .to in
     record { day = omega arith; month = omega arith; year = omega arith }
+
+-- the days of 1972 to 2003 have the words that document 01 gives them
+pub first-age : (d m y : ℕ) → y < 2004 → packedDay d m y ≡ m * 1024 + d * 32 + (y - 1972)
+unfolding packedDay years
+first-age d m y h = omega arith
 
 pub word-named : (d m y : ℕ) → inCalendar d m y ≡ true → namesDay (packedDay d m y) ≡ true
 unfolding namesDay
 word-named d m y h =
     let f = fields d m y h in
-    rw (f .day, f .month, f .year, h) (eq-eqb (packedDay d m y) (packedDay d m y) refl)
+    rw (f .day, f .month, f .year) h
 
--- a good word that names a day, taken apart
+-- what the year that a word names adds to the word of a day: the word's own age and low five bits
+part-named : (w : ℕ) → years .part (years .named w) ≡ w / 16384 * 16384 + w % 32
+unfolding years
+part-named w = omega arith
+
+-- a word cut below and above its day, and what is above the day cut below and above the month
+day-above : (w : ℕ) → w ≡ w / 1024 * 1024 + w / 32 % 32 * 32 + w % 32
+day-above w = omega arith
+
+month-above : (w : ℕ) → w / 1024 * 1024 ≡ w / 16384 * 16384 + w / 1024 % 16 * 1024
+month-above w = omega arith
+
+-- every word is made of its fields
+pub made-of-fields : (w : ℕ) → packedDay (dayField w) (monthField w) (years .named w) ≡ w
+unfolding dayField monthField packedDay
+made-of-fields w = omega (arith, part-named w, day-above w, month-above w)
+
+-- a word that names a day is that day's word
 pub named-parts : (w : ℕ) → namesDay w ≡ true
     → (inCalendar (dayField w) (monthField w) (years .named w) ≡ true)
     × (packedDay (dayField w) (monthField w) (years .named w) ≡ w)
 unfolding namesDay
-named-parts w h =
-    let p = both (inCalendar (dayField w) (monthField w) (years .named w)) (eqb (packedDay (dayField w) (monthField w) (years .named w)) w) h in
-    (p .0, eqb-true (packedDay (dayField w) (monthField w) (years .named w)) w (p .1))
+named-parts w h = (h, made-of-fields w)
 
 -- A date word is good exactly when it is 0 or is the word of some calendar day
 pub IsWordOfDay : ℕ → Type 0

@@ -1,4 +1,4 @@
--- Date words (document 01, "Names and dates").
+-- Date words (document 01, "Names and dates"; the years and the age are document 02's, Req 02).
 use Prim.Native.Nat.{ℕ, _+_, _*_, _-_, _/_, _%_}
 use mathlib.Core.Bool.{Bool, cond, _&&_, _||_, not}
 use mathlib.Core.List.{List, [], _∷_}
@@ -14,8 +14,15 @@ pub record Years : Type 0 where
   pub part : ℕ → ℕ
   pub named : ℕ → ℕ
 
+-- A word's top two bits are the age, of 32 years: a word names the year 1972 + 32 * age + its low five bits
 unfoldable pub years : Years
-years = record { first = 1972; last = 2003; part = λ year. year - 1972; named = λ word. 1972 + word % 32 }
+years =
+    record {
+      first = 1972;
+      last = 2099;
+      part = λ year. (year - 1972) / 32 * 16384 + (year - 1972) % 32;
+      named = λ word. 1972 + 32 * (word / 16384) + word % 32;
+    }
 
 -- the table of month lengths, by month; there is no month 0
 unfoldable pub monthLengths : List ℕ
@@ -34,7 +41,7 @@ unfoldable pub inCalendar : ℕ → ℕ → ℕ → Bool
 inCalendar day month year =
     leb (years .first) year && leb year (years .last) && leb 1 day && leb day (daysIn month year)
 
--- the word of a day: the month above the day above what the year adds
+-- the word of a day: the month above the day, and what the year adds
 unfoldable pub packedDay : ℕ → ℕ → ℕ → ℕ
 packedDay day month year = month * 1024 + day * 32 + years .part year
 
@@ -45,13 +52,9 @@ dayField word = word / 32 % 32
 unfoldable pub monthField : ℕ → ℕ
 monthField word = word / 1024 % 16
 
--- a word names a calendar day where it is that day's word
+-- a word names the day of its fields, where that is in the calendar
 unfoldable pub namesDay : ℕ → Bool
-namesDay word =
-    let day = dayField word in
-    let month = monthField word in
-    let year = years .named word in
-    inCalendar day month year && eqb (packedDay day month year) word
+namesDay word = inCalendar (dayField word) (monthField word) (years .named word)
 
 -- a date word is good where it names a day, or is 0, which stands for no date
 unfoldable pub goodDate : ℕ → Bool

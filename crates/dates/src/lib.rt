@@ -1,4 +1,5 @@
-// Date words (document 01, "Names and dates"): a calendar day, and the word that names it. Nothing here knows of directories.
+// Date words (document 01, "Names and dates"; document 02, Req 02): a calendar day, and the word that names it. Nothing here knows of
+// directories.
 ghost use mathlib.Core.Path.{_≡_};
 ghost use mathlib.Core.Bool.{true};
 ghost use Rattle.dates.specs.Dates.{isLeap, daysIn, inCalendar, packedDay, years, namesDay};
@@ -9,7 +10,7 @@ const MONTH_LENGTHS: [u16; 13] = [0, 31, 28, 31, 30, 31, 30, 31, 31, 30, 31, 30,
 
 const FIRST_YEAR: u16 = 1972;
 
-const LAST_YEAR: u16 = 2003;
+const LAST_YEAR: u16 = 2099;
 
 // The word of a day: number 0, or 9 and word 0.
 pub struct DayWord {
@@ -71,13 +72,14 @@ fn date_word(day: u16, month: u16, year: u16) -> u16
     requires { ⌜ inCalendar day month year ≡ true ⌝ }
     ensures { λ r. ⌜ r ≡ packedDay day month year ⌝ }
 {
-    month * 1024 + day * 32 + (year - FIRST_YEAR)
+    let since = year - FIRST_YEAR;
+    month * 1024 + day * 32 + (since / 32 * 16384 + since % 32)
 }
 
 fn year_named(word: u16) -> u16
     ensures { λ r. ⌜ r ≡ years .named word ⌝ }
 {
-    FIRST_YEAR + word % 32
+    FIRST_YEAR + 32 * (word / 16384) + word % 32
 }
 
 fn names_day(word: u16) -> bool
@@ -86,10 +88,7 @@ fn names_day(word: u16) -> bool
     let day = word / 32 % 32;
     let month = word / 1024 % 16;
     let year = year_named(word);
-    if !in_calendar(day, month, year) {
-        return false;
-    }
-    date_word(day, month, year) == word
+    in_calendar(day, month, year)
 }
 
 // Day, month and year to the date word.

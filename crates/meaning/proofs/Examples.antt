@@ -2,13 +2,12 @@
 -- Assumes nothing.
 use mathlib.Core.Path.{_≡_, refl}
 use mathlib.Core.Bool.{true}
-use Rattle.meaning.specs.Listing.{sameBytes}
 use Rattle.meaning.specs.Examples.{nameIn, ask, table, filesFrom, slips, answered, left, runs, requestsIn, answerRoom, allAnswered, batches, allRight}
-use Rattle.meaning.proofs.Opened.{all-names, all-dates, all-words, all-sound, all-requests, all-enter}
+use Rattle.meaning.proofs.Opened.{all-names, all-dates, all-words, all-sound, all-requests, all-enter, all-listing}
 
 -- all that the two tables compute with
 all-examples : Unit {0}
-unfolding all-names all-dates all-words all-sound all-requests all-enter sameBytes nameIn ask filesFrom answered left runs requestsIn
+unfolding all-names all-dates all-words all-sound all-requests all-enter all-listing nameIn ask filesFrom answered left runs requestsIn
     answerRoom allAnswered batches allRight
 all-examples = tt
 

@@ -4,7 +4,7 @@ use Rattle.names.specs.Text.{bytes}
 use Rattle.names.specs.Radix.{alphabet, shown, place, codeOf, packed, packedAt, spelled, textOf, inName, inText, blank}
 use Rattle.names.specs.Radix.{padded, legalText, spells, legalName, wordsOfText, textOfWords}
 use Rattle.dates.specs.Dates.{years, monthLengths, isLeap, daysIn, inCalendar, packedDay, dayField, monthField, namesDay}
-use Rattle.dates.specs.Dates.{goodDate, wordOfDay}
+use Rattle.dates.specs.Dates.{goodDate, wordOfDay, dayOfWord}
 use Rattle.meaning.specs.Kinds.{kindOf}
 use Rattle.meaning.specs.Words.{segment, capacity, sameName, chunks, slots, upto, entries, total, chainFrom, reached, chain}
 use Rattle.meaning.specs.Words.{rowsIn, segmentRows, rowsOf, rows, entriesOf, allEntries}
@@ -19,6 +19,7 @@ use Rattle.meaning.specs.Enter.{tidiedAt, tidied, costAfter, hasRoom}
 use Rattle.meaning.specs.Enter.{areasIn, areas, eligibles, longestOf, without, secondOf, wanted, atLeast, longEnough, firstFit}
 use Rattle.meaning.specs.Enter.{endsTentative, kept, inserted, unsplit, split, entered, enter}
 use Rattle.meaning.specs.Batch.{serve, wordsAfter, answersTo, batch}
+use Rattle.meaning.specs.Listing.{sameBytes, digitsOf, decimal, twoDigits, dateText}
 
 unfoldable pub all-names : Unit {0}
 unfolding bytes alphabet shown place codeOf packed packedAt spelled textOf inName inText blank padded legalText spells legalName
@@ -27,6 +28,7 @@ all-names = tt
 
 unfoldable pub all-dates : Unit {0}
 unfolding years monthLengths isLeap daysIn inCalendar packedDay dayField monthField namesDay goodDate wordOfDay
+    dayOfWord
 all-dates = tt
 
 unfoldable pub all-words : Unit {0}
@@ -48,3 +50,7 @@ unfoldable pub all-enter : Unit {0}
 unfolding sizeOf joined dropZero tidy withSegment headerOf hasRun hasZero untidy tidiedAt tidied costAfter hasRoom areasIn areas
     eligibles longestOf without secondOf wanted atLeast longEnough firstFit endsTentative kept inserted unsplit split entered enter
 all-enter = tt
+
+unfoldable pub all-listing : Unit {0}
+unfolding sameBytes digitsOf decimal twoDigits dateText
+all-listing = tt

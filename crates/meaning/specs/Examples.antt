@@ -22,7 +22,7 @@ use Rattle.meaning.specs.Requests as Requests
 use Rattle.meaning.specs.Kinds.{tentativeStatus, permanentStatus}
 use Rattle.meaning.specs.Requests.{entryOf, emptyEntry, render}
 use Rattle.meaning.specs.Batch.{serve, batch}
-use Rattle.meaning.specs.Listing.{sameBytes}
+use Rattle.meaning.specs.Listing.{sameBytes, dateText}
 
 -- a step of an example: a fresh start with E extra words, or a request
 pub data Ask : Type 0 where
@@ -37,11 +37,12 @@ pub record Step : Type 0 where
   pub length : ℕ
   pub date : ℕ
 
--- a row of the table: a text and its three words; a day, its number and word; a run: V, the words that it begins with, its steps, and
--- the lengths of all entries in the end; the same as one batch; or the fault's number of V and words
+-- a row of the table: a text and its three words; a day, its number and word; a date word as the listing shows it; a run: V, the words
+-- that it begins with, its steps, and the lengths of all entries in the end; the same as one batch; or the fault's number of V and words
 pub data Case : Type 0 where
   wordsFor : String → ℕ → ℕ → ℕ → Case
   dated : ℕ → ℕ → ℕ → ℕ → ℕ → Case
+  shown : ℕ → String → Case
   run : ℕ → List ℕ → List Step → List ℕ → Case
   batched : ℕ → List ℕ → List Step → List ℕ → Case
   faulty : ℕ → List ℕ → ℕ → Case
@@ -162,8 +163,9 @@ fullSegment =
 
 -- the slips: a sum of V + 65,536; a tentative entry before a file, and before the marker; zero lengths, legal for every kind; H read in
 -- another segment than 1; a looped chain; one channel word or one name twice; refusals in number order, where two would apply; a close
--- over a file of the same name, which keeps its own blocks; the highest channel of either job, a file on each; requests that touch no
--- file that they don't name, though it shares a name word or stands next; and a split that parts no tentative entry from its area
+-- over a file of the same name, which keeps its own blocks; the highest channel of either job, a file on each; the first and last days of
+-- the ages, and 16,384, which is an age alone and no date; requests that touch no file that they don't name, though it shares a name word
+-- or stands next; and a split that parts no tentative entry from its area
 unfoldable pub slips : List Case
 slips =
     faulty 100 (oneSegment (file 1600 65535 ∷ file 3200 93 ∷ [])) 5
@@ -204,6 +206,24 @@ slips =
     ∷ gives (askClose 0 255 (pos 7)) 58 7 0
     ∷ [])
     (50 ∷ 7 ∷ 3 ∷ 8 ∷ 24 ∷ [])
+    ∷ dated 29 2 2000 0 3004
+    ∷ dated 31 12 2003 0 13311
+    ∷ dated 1 1 2004 0 17440
+    ∷ dated 31 12 2099 0 62463
+    ∷ dated 1 1 2100 9 0
+    ∷ shown 3004 "29-02-2000"
+    ∷ shown 17440 "01-01-2004"
+    ∷ shown 62463 "31-12-2099"
+    ∷ shown 16384 "----------"
+    ∷ shown 0 "----------"
+    ∷ run 100 (oneSegment (file 1600 50 ∷ area 42 ∷ []))
+    (gets (askEnter "B        " (pos 10) 0 3 16384) 9
+    ∷ gives (askEnter "B        " (pos 10) 0 3 17440) 58 10 17440
+    ∷ gives (askEnter "C        " (pos 10) 0 4 62463) 68 10 62463
+    ∷ gives (askClose 0 3 (pos 7)) 58 7 17440
+    ∷ gives (askLookup "B        ") 58 7 17440
+    ∷ [])
+    (50 ∷ 7 ∷ 3 ∷ 10 ∷ 22 ∷ [])
     ∷ run 100 (anyWords 1)
     (gives (start 0) 8 92 0
     ∷ gives (askEnter "A     X  " (pos 10) 0 1 0) 8 10 0
@@ -286,6 +306,7 @@ right (wordsFor t a b c) =
     let w = wordsOfText (bytes t) in
     eqb (w .number) 0 && eqb (w .first) a && eqb (w .second) b && eqb (w .extension) c
 right (dated d m y number word) = let w = wordOfDay d m y in eqb (w .number) number && eqb (w .word) word
+right (shown word t) = sameBytes (dateText word) (bytes t)
 right (run v d ss ns) = runs v d ss ns
 right (batched v d ss ns) = batches v d ss ns
 right (faulty v d k) = eqb (fault v d) k

@@ -61,14 +61,11 @@ pub fn is_channel(job: u16, channel: u16) -> bool {
     (job == 0 || job == 2) && channel <= CHANNEL_LIMIT
 }
 
-/// Day, month and year of a date word that names a calendar day.
+/// Day, month and year of a date word that names a calendar day. The top two bits are the age.
 pub fn day_of(word: u16) -> Option<(u16, u16, u16)> {
     const DAYS: [u16; 16] = [0, 31, 28, 31, 30, 31, 30, 31, 31, 30, 31, 30, 31, 0, 0, 0];
-    let (month, day, year) = (word >> 10, word >> 5 & 31, 1972 + (word & 31));
-    if month > 12 {
-        return None;
-    }
-    let leap = year % 4 == 0; // of 1972 to 2003, as 2000 is one
+    let (month, day, year) = (word >> 10 & 15, word >> 5 & 31, 1972 + 32 * (word >> 14) + (word & 31));
+    let leap = year % 4 == 0; // of 1972 to 2099, as 2000 is one
     let days = DAYS[month as usize] + (month == 2 && leap) as u16;
     (day >= 1 && day <= days).then_some((day, month, year))
 }

@@ -1,4 +1,4 @@
--- `date_word` meets its contract: a calendar day's month, day and year are small enough for the sum to fit (`calendar-parts`).
+-- `date_word` meets its contract: a calendar day's month, day and year are small enough for each step to fit (`calendar-parts`).
 use native.Mathlib.Omega.{arith}
 use borrow.Author.Needs.{needs}
 use Rattle.dates.specs.Dates.{packedDay, years}
@@ -6,25 +6,30 @@ use Rattle.dates.proofs.Days.{calendar-parts}
 use Rattle.dates.proofs.date_word.Statement.{statement}
 use Rattle.dates.proofs.date_word.Tie as tie
 
-mul-result : tie.Need-mul-result
+sub-since : tie.Need-sub-since
 unfolding years
-mul-result c = let p = calendar-parts _ _ _ (c .pre) in let a = p .from in let b = p .to in omega arith
+sub-since c = omega (arith, calendar-parts _ _ _ (c .pre))
+
+mul-result : tie.Need-mul-result
+mul-result c = omega (arith, calendar-parts _ _ _ (c .pre))
 
 mul-result-2 : tie.Need-mul-result-2
-unfolding years
-mul-result-2 c = let p = calendar-parts _ _ _ (c .pre) in let a = p .from in let b = p .to in omega arith
+mul-result-2 c = omega (arith, calendar-parts _ _ _ (c .pre))
 
 add-result : tie.Need-add-result
-unfolding years
-add-result c = let p = calendar-parts _ _ _ (c .pre) in let a = p .from in let b = p .to in omega arith
+add-result c = omega (arith, calendar-parts _ _ _ (c .pre))
 
-sub-result : tie.Need-sub-result
+mul-result-3 : tie.Need-mul-result-3
 unfolding years
-sub-result c = let p = calendar-parts _ _ _ (c .pre) in let a = p .from in let b = p .to in omega arith
+mul-result-3 c = omega (arith, calendar-parts _ _ _ (c .pre))
 
 add-result-2 : tie.Need-add-result-2
 unfolding years
-add-result-2 c = let p = calendar-parts _ _ _ (c .pre) in let a = p .from in let b = p .to in omega arith
+add-result-2 c = omega (arith, calendar-parts _ _ _ (c .pre))
+
+add-result-3 : tie.Need-add-result-3
+unfolding years
+add-result-3 c = omega (arith, calendar-parts _ _ _ (c .pre))
 
 returns : tie.Need-returns
 unfolding packedDay years
@@ -32,4 +37,4 @@ returns c = search needs
 
 pub date-word-spec : {M : Type 1} → statement M
 date-word-spec =
-    tie.close (tie.spec mul-result mul-result-2 add-result sub-result add-result-2 returns)
+    tie.close (tie.spec sub-since mul-result mul-result-2 add-result mul-result-3 add-result-2 add-result-3 returns)

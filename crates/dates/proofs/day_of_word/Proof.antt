@@ -1,7 +1,7 @@
 -- `day_of_word` meets its contract: a return for each of a word that names a day, word 0, and a bad word.
 use borrow.Author.Needs.{needs}
 use mathlib.Core.Path.{sym, _∙_}
-use borrow.Author.Tests.{eq-eqb, ne-eqb}
+use borrow.Author.Tests.{ne-eqb}
 use Rattle.dates.specs.Dates.{dayOfWord, dayField, monthField}
 use Rattle.dates.proofs.day_of_word.Statement.{statement}
 use Rattle.dates.proofs.day_of_word.Tie as tie
@@ -18,7 +18,7 @@ returns c = rw (sym (c .before .before .names-day .ensures) ∙ c .before .if1 .
 
 returns-2 : tie.Need-returns-2
 unfolding dayOfWord dayField monthField
-returns-2 c = rw (sym (c .before .before .names-day .ensures) ∙ c .before .if1 .left, eq-eqb _ 0 (c .if2 .taken))
+returns-2 c = rw (sym (c .before .before .names-day .ensures) ∙ c .before .if1 .left, c .if2 .taken)
 
 returns-3 : tie.Need-returns-3
 unfolding dayOfWord dayField monthField

@@ -14,10 +14,10 @@ returns c = rw (lt-leb 1972 _ (c .if1 .taken))
 
 returns-2 : tie.Need-returns-2
 unfolding inCalendar years
-returns-2 c = rw (le-leb 1972 _ (c .before .if1 .left), lt-leb _ 2003 (c .if2 .taken))
+returns-2 c = rw (le-leb 1972 _ (c .before .if1 .left), lt-leb _ 2099 (c .if2 .taken))
 
-year-at : (c : tie.Else2) → leb 1972 (c .before .before .args .year) && leb (c .before .before .args .year) 2003 ≡ true
-year-at c = rw (le-leb 1972 _ (c .before .if1 .left), le-leb _ 2003 (c .if2 .left))
+year-at : (c : tie.Else2) → leb 1972 (c .before .before .args .year) && leb (c .before .before .args .year) 2099 ≡ true
+year-at c = rw (le-leb 1972 _ (c .before .if1 .left), le-leb _ 2099 (c .if2 .left))
 
 returns-3 : tie.Need-returns-3
 unfolding inCalendar years
