@@ -5,14 +5,15 @@
     python3 model/cases.py --check                          tells whether both parts are what the model gives today
     python3 model/cases.py --run FILE                       prints the lines that the model gives for a case file
 
-Our own part is the bench examples, the evening's batches, the channels, the ages, the trials and one seed of random requests. Its lines come
-from the model alone.
+Our own part is the bench examples, the evening's batches, the channels, the ages, the bad areas, the trials and one seed of random requests. Its
+lines come from the model alone.
 """
 import itertools
 import pathlib
 import sys
 
 import ages
+import bads
 import bench
 import casefile
 import channels
@@ -32,6 +33,7 @@ def own_part():
     evening.add(case)
     channels.add(case)
     ages.add(case)
+    bads.add(case)
     trials.add(case)
     requests.add(case, SEED, DIRECTORIES)
     case.end()

@@ -11,11 +11,11 @@ import sys
 
 from casefile import CaseFile
 from rt11 import ABANDON, CHANNEL, CHANNEL_LIMIT, CLOSE, DELETE, EMPTY, END, ENTER, EXTRA, JOBS, LENGTH, LOOKUP, NAME
-from rt11 import PERMANENT, RENAME, STATUS, TENTATIVE
+from rt11 import FILE_BAD, PERMANENT, RENAME, STATUS, TENTATIVE
 from rt11 import Request, entries, first_data_block, named
 
 FIRST_PARTS = "A", "B", "AB", "ABCD", "FILE", "F1", "LONGER"
-NAMES = [named(f"{first}.{extension}") for first in FIRST_PARTS for extension in ("", "X", "CHG")]
+NAMES = [named(f"{first}.{extension}") for first in FIRST_PARTS for extension in ("", "X", "CHG", "BAD")]
 # blank, above 63,999, a space first or inside, a dollar sign, code 29
 BAD_NAMES = [(0, 0, 0), (64_000, 0, 0), (1600, 64_000, 0), (40, 0, 0), (1600, 1600, 0), (43_200, 0, 0), (1600, 0, 29)]
 OPS = [ENTER] * 4 + [CLOSE] * 3 + [DELETE] * 2 + [LOOKUP, ABANDON, RENAME]
@@ -73,9 +73,9 @@ class Chance(random.Random):
         return [EMPTY, self.word(), self.word(), 0, self.length(), self.randrange(9), self.word()] + self.rest(extra)
 
     def file(self, extra, taken):
-        """A permanent entry of a name that is not taken yet."""
-        name = self.choice(NAMES)
-        while name in taken:
+        """A permanent entry of a name that is not taken yet, or now and then one more FILE.BAD."""
+        name = FILE_BAD if self.random() < 0.1 else self.choice(NAMES)
+        while name in taken and name != FILE_BAD:
             name = tuple(self.randrange(64_000) for _ in range(3))
         taken.add(name)
         return [PERMANENT, *name, self.length(), self.randrange(9), self.choice([0, 3556, self.word()])] + self.rest(extra)

@@ -70,6 +70,9 @@ def named(text):
     return tuple(words)
 
 
+FILE_BAD = named("FILE.BAD")  # the name that may stand more than once (document 02, Req 03)
+
+
 # -- The volume, and one segment --
 
 
@@ -204,7 +207,9 @@ def key(entry):
 
 
 def has_key_twice(words, _v):
+    """Of the files named FILE.BAD there may be any number."""
     keys = [key(row.entry) for row in rows(words) if kind(row.entry) != "E"]
+    keys = [found for found in keys if found != ("P", FILE_BAD)]
     return len(set(keys)) != len(keys)
 
 
@@ -220,7 +225,7 @@ def fault(words, v):
 
 
 def row_of(words, wanted):
-    """The first entry with a key, or None."""
+    """The first entry with a key, in chain order, or None."""
     return next((row for row in rows(words) if key(row.entry) == wanted), None)
 
 
@@ -282,6 +287,8 @@ def lookup(words, request):
 def delete(words, request):
     if not is_name(request.name):
         return refused(7, words)
+    if request.name == FILE_BAD:
+        return refused(19, words)
     row = file_of(words, request.name)
     if row is None:
         return refused(13, words)
@@ -291,6 +298,8 @@ def delete(words, request):
 def rename(words, request):
     if not (is_name(request.name) and is_name(request.new_name)):
         return refused(7, words)
+    if FILE_BAD in (request.name, request.new_name):
+        return refused(19, words)
     row = file_of(words, request.name)
     if row is None:
         return refused(13, words)
@@ -320,9 +329,9 @@ def close(words, request):
 
 
 def closing(words, row, final_length):
-    """The file is permanent, the next entry grows by the difference, and a permanent entry of the same name becomes empty."""
+    """The file is permanent, the next entry grows by the difference, and a permanent entry of the same name becomes empty, but no FILE.BAD."""
     following = row.place + slot_words(words) + LENGTH
-    old = file_of(words, row.entry[NAME])
+    old = None if tuple(row.entry[NAME]) == FILE_BAD else file_of(words, row.entry[NAME])
     return [
         (row.place + STATUS, PERMANENT),
         (row.place + LENGTH, final_length),
@@ -429,6 +438,8 @@ def placed(words, parts, area, new):
 def enter(words, request):
     if not is_name(request.name):
         return refused(7, words)
+    if request.name == FILE_BAD:
+        return refused(19, words)
     if not is_channel(request):
         return refused(8, words)
     if not -1 <= request.size <= MOST_BLOCKS or not is_good_date(request.date):

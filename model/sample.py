@@ -1,6 +1,6 @@
 #!/usr/bin/env python3
-"""The sample head files and their listings: document 01's volume after example 5's close at 12, and a volume with files of all four ages
-(document 02, Req 02).
+"""The sample head files and their listings: document 01's volume after example 5's close at 12, a volume with files of all four ages
+(document 02, Req 02), and one with bad areas (Req 03).
 
     python3 model/sample.py
 
@@ -55,6 +55,21 @@ def is_shown(text):
     return dates == [shown for _name, _word, shown in AGES] + ["31-12-2099", "----------"]
 
 
+def bad():
+    """Three areas of bad blocks, each covered by a FILE.BAD, between charge tables."""
+    found = [
+        [PERMANENT, *named("DAY.CHG"), 12, 0, 3_556],
+        [PERMANENT, *named("FILE.BAD"), 2, 0, 3_556],
+        [PERMANENT, *named("NIGHT.CHG"), 9, 0, 3_556],
+        [PERMANENT, *named("FILE.BAD"), 1, 0, 3_556],
+        [EMPTY, 0, 0, 0, 100, 0, 0],
+        [PERMANENT, *named("FILE.BAD"), 5, 0, 3_588],
+        [EMPTY, 0, 0, 0, 363, 0, 0],
+    ]
+    first = first_data_block(1)
+    return rendered([1, 0, 1, 0, first], found), first + sum(entry[LENGTH] for entry in found)
+
+
 def write(name, words, v):
     file = head_file(words, v)
     text = listing(file)
@@ -67,6 +82,7 @@ def write(name, words, v):
 def main():
     write("day", *day())
     assert is_shown(write("ages", *ages()))
+    assert write("bad", *bad()).count("FILE  .BAD") == 3
     names = (LIST / "args").read_text().split()
     (LIST / "stdout").write_text("".join(listing((LIST / "data" / name).read_bytes()) for name in names))
 

@@ -2,7 +2,7 @@
 //! forms and on damaged directories.
 use crate::ours;
 use crate::volumes::{head_file, Random};
-use ordinary::{Answer, Name, Op, Request, ROOM};
+use ordinary::{Answer, Name, Op, Request, FILE_BAD, ROOM};
 
 /// How many requests a volume gets.
 const REQUESTS: usize = 500;
@@ -22,8 +22,11 @@ fn serve(d: &mut [u16], e: &mut [u16], v: usize, r: &Request) -> (Answer, Answer
     }
 }
 
-/// A name out of few, so that names meet; seldom an illegal one.
+/// A name out of few, so that names meet; seldom an illegal one, and now and then FILE.BAD.
 fn few(random: &mut Random) -> Name {
+    if random.below(30) == 0 {
+        return FILE_BAD;
+    }
     let word = |random: &mut Random| if random.below(200) == 0 { random.below(65536) as u16 } else { 1600 * (1 + random.below(12) as u16) };
     Name { first: word(random), second: [0, 1600][random.below(2)], extension: word(random) }
 }
@@ -84,8 +87,26 @@ fn same_faults(d: &[u16], v: usize, random: &mut Random, rooms: &mut [Box<[u8; R
     same_listing(&e, v, rooms);
 }
 
+/// The place of an entry of a sound directory that is a file or open, if chance comes upon one.
+fn some_file(d: &[u16], random: &mut Random) -> Option<usize> {
+    let width = 7 + d[3] as usize / 2;
+    let start = 512 * random.below(d[2] as usize) + 5;
+    let count = (0..507 / width).position(|k| d[start + k * width] == 2048)?;
+    let at = start + width * random.below(count.max(1));
+    [256, 1024].contains(&d[at]).then_some(at)
+}
+
+/// A foreign hand makes a file, finished or open, a FILE.BAD, which no request could.
+fn made_bad(d: &mut [u16], e: &mut [u16], random: &mut Random) {
+    if let Some(at) = some_file(d, random) {
+        for words in [d, e] {
+            words[at + 1..at + 4].copy_from_slice(&[FILE_BAD.first, FILE_BAD.second, FILE_BAD.extension]);
+        }
+    }
+}
+
 /// One volume, started afresh, and some hundred requests. Answers its segments in use.
-fn same_volume(random: &mut Random, rooms: &mut [Box<[u8; ROOM]>; 2], seen: &mut [usize; 19], faults: &mut [usize; 7]) -> u16 {
+fn same_volume(random: &mut Random, rooms: &mut [Box<[u8; ROOM]>; 2], seen: &mut [usize; 20], faults: &mut [usize; 7]) -> u16 {
     let (n, extra) = (1 + random.below(5), [0, 0, 1, 10, 16][random.below(5)]);
     let span = [20, 200, 3000][random.below(3)];
     let v = 6 + 2 * n + random.below(span);
@@ -98,6 +119,9 @@ fn same_volume(random: &mut Random, rooms: &mut [Box<[u8; ROOM]>; 2], seen: &mut
         assert_eq!(x, y, "the answers differ, of {r:?}");
         assert!(d == e, "the words differ after {r:?}");
         seen[x.number as usize] += 1;
+        if random.below(20) == 0 {
+            made_bad(&mut d, &mut e, random);
+        }
         if random.below(8) == 0 {
             same_faults(&d, v, random, rooms, faults);
         }
@@ -122,12 +146,12 @@ fn same_batch(d: &mut [u16], v: usize, random: &mut Random) {
 pub fn agree(volumes: usize) {
     let mut random = Random(1976);
     let mut rooms = [Box::new([b'#'; ROOM]), Box::new([b'#'; ROOM])];
-    let (mut seen, mut faults, mut splits) = ([0; 19], [0; 7], 0);
+    let (mut seen, mut faults, mut splits) = ([0; 20], [0; 7], 0);
     for _ in 0..volumes {
         splits += same_volume(&mut random, &mut rooms, &mut seen, &mut faults) as usize - 1;
     }
     let damaged: usize = faults.iter().sum();
     println!("The same answers and words: {} random requests, {splits} splits, {damaged} damaged directories.", REQUESTS * volumes);
     assert!(faults[1..].iter().all(|&k| k > 0), "a fault was never met: {faults:?}");
-    assert!([0, 7, 8, 9, 10, 11, 12, 13, 14, 15, 16].iter().all(|&k| seen[k] > 0), "a number was never answered: {seen:?}");
+    assert!([0, 7, 8, 9, 10, 11, 12, 13, 14, 15, 16, 19].iter().all(|&k| seen[k] > 0), "a number was never answered: {seen:?}");
 }

@@ -8,11 +8,11 @@ use native.Mathlib.Omega.{arith}
 use lib.ListN.{length, getD, take, drop, set}
 use Rattle.meaning.specs.declared.Name.{Name}
 use Rattle.meaning.specs.Kinds.{permanentStatus}
-use Rattle.meaning.specs.Words.{Row, slotWords, statusWord, lengthWord, channelWord, nameOf, blocks, dateOf, rows}
+use Rattle.meaning.specs.Words.{Row, slotWords, statusWord, lengthWord, channelWord, nameOf, blocks, dateOf}
 use Rattle.meaning.specs.Sound.{fault}
-use Rattle.meaning.specs.Answers.{Write, put, write, find, fileOf, openOn}
-use Rattle.meaning.specs.Requests.{emptying, replacing, closing}
-use Rattle.meaning.specs.declared.Key.the-variants.{File, Open}
+use Rattle.meaning.specs.Answers.{Write, put, write, openOn}
+use Rattle.meaning.specs.Requests.{emptying, replacing, givesWay, closing}
+use Rattle.meaning.specs.declared.Key.the-variants.{Open}
 use Rattle.meaning.specs.Keys.{holds}
 use Rattle.segment.specs.declared.finder.Place.{Place}
 use Rattle.segment.specs.declared.finder.Found.{Found}
@@ -80,13 +80,12 @@ name-there d p r q w l =
 
 -- so the old file is looked for by the entry's name
 pub old-key : (d : List ℕ) (p : Place) (r : Row) → Ready d p r → (w : ℕ) → 7 ≤ w → (n : Name) (f : Found)
-    → n ≡ nameOf (take w (drop (p .at) d)) → f ≡ foundOf (find (holds (File n)) (rows d)) → f ≡ foundOf (fileOf d (nameOf (r .entry)))
-unfolding fileOf
-old-key d p r q w l n f g e = e ∙ ap (λ (m : Name). foundOf (find (holds (File m)) (rows d))) (g ∙ name-there d p r q w l)
+    → n ≡ nameOf (take w (drop (p .at) d)) → f ≡ foundOf (givesWay d n) → f ≡ foundOf (givesWay d (nameOf (r .entry)))
+old-key d p r q w l n f g e = e ∙ ap (λ (m : Name). foundOf (givesWay d m)) (g ∙ name-there d p r q w l)
 
 -- the words after both steps are those of the close
 pub closed-words : (d : List ℕ) (p : Place) (r : Row) (n : ℕ) (f : Found) → Ready d p r
-    → f ≡ foundOf (fileOf d (nameOf (r .entry)))
+    → f ≡ foundOf (givesWay d (nameOf (r .entry)))
     → write
     (write d
     (put (p .at) statusWord permanentStatus
@@ -98,7 +97,7 @@ pub closed-words : (d : List ℕ) (p : Place) (r : Row) (n : ℕ) (f : Found) �
     ≡ write d (closing d r n)
 unfolding closing
 closed-words d p r n f q e =
-    let o = fileOf d (nameOf (r .entry)) in
+    let o = givesWay d (nameOf (r .entry)) in
     let b : getD d (p .at + lengthWord) 0 ≡ blocks (r .entry) = q .word 4 (omega arith) in
     rw (replaced o f e, b, q .at)
     (sym

@@ -4,16 +4,18 @@ use mathlib.Core.Path.{_≡_}
 use mathlib.Core.Bool.{cond}
 use mathlib.Core.List.{List, [], _∷_}
 use mathlib.Core.Option.{Option, none, some}
+use lib.ListN.{length}
 use lib.IntN.{ℤ}
 use lib.Dec.{leb}
+use Rattle.meaning.specs.declared.Name.{Name}
 use Rattle.meaning.specs.Kinds.{emptyStatus}
-use Rattle.meaning.specs.Words.{Row, statusWord, dateOf}
+use Rattle.meaning.specs.Words.{Row, slotWords, statusWord, dateOf}
 use Rattle.meaning.specs.Answers.{Outcome, success, onRow, Write, put, write, openOn}
-use Rattle.meaning.specs.Requests.{finalLength, closing}
+use Rattle.meaning.specs.Requests.{givesWay, finalLength, closing}
 use Rattle.segment.specs.declared.finder.Place.{Place}
 use Rattle.segment.specs.declared.finder.Found.{Found}
 use Rattle.segment.specs.declared.finder.Found.the-variants.{At, Nothing}
-use Rattle.segment.specs.Finder.{placeOf}
+use Rattle.segment.specs.Finder.{placeOf, foundOf, Inside}
 use Rattle.channels.specs.declared.Final.{Final}
 use Rattle.channels.specs.declared.Final.the-variants.{Length, Wrong}
 
@@ -24,6 +26,11 @@ finalUnder (some n) longest = cond (leb n longest) (Length n) Wrong
 
 unfoldable pub finalBy : ℤ → ℕ → Final
 finalBy z longest = finalUnder (finalLength z) longest
+
+-- the file that gives way to a new one of this name, as a search answers; and where there is one, the words of its slot lie in the directory
+pub record OldFile (r : Found) (d : List ℕ) (name : Name) : Type 0 where
+  pub is : r ≡ foundOf (givesWay d name)
+  pub inside : Inside r (slotWords d) (length d)
 
 -- the old file's status
 abbrev pub replacingAt : Found → List Write

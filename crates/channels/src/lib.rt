@@ -7,6 +7,8 @@ use find::found::empty_found;
 use meaning::Answer;
 use meaning::CHANNEL_LIMIT;
 use meaning::Key;
+use meaning::Name;
+use meaning::is_spared;
 use meaning::refused;
 use meaning::succeeded;
 use segment::finder::Found;
@@ -19,7 +21,8 @@ ghost use Rattle.meaning.specs.Sound.{fault};
 ghost use Rattle.meaning.specs.Requests.{goodChannel, abandon, close};
 ghost use Rattle.meaning.specs.Answers.{Meets, write};
 ghost use Rattle.segment.specs.Finder.{Inside};
-ghost use Rattle.channels.specs.Closing.{finalBy, replacingAt, Opened, closedOn};
+ghost use Rattle.chain.specs.Chained.{Chained};
+ghost use Rattle.channels.specs.Closing.{finalBy, OldFile, replacingAt, Opened, closedOn};
 
 // A final length that a tentative entry allows, or none.
 pub enum Final {
@@ -64,6 +67,17 @@ fn final_of(size: i32, longest: u16) -> Final
     Final::Length(blocks as u16)
 }
 
+// The file that gives way to a new one of this name. A FILE.BAD gives way to none.
+fn find_old(d: &[u16], name: Name) -> Found
+    requires { ⌜ Chained (now d) ⌝ }
+    ensures { λ r. ⌜ OldFile r (now (d .entry)) name ⌝ }
+{
+    if is_spared(name) {
+        return Found::Nothing;
+    }
+    find_entry(d, Key::File(name))
+}
+
 // The file that was found, if any, becomes empty.
 fn empty_old(d: &mut [u16], old: Found)
     requires { ⌜ Inside old 7 (length (now d)) ⌝ }
@@ -87,7 +101,7 @@ fn close_at(d: &mut [u16], v: usize, word: u16, place: Place, size: u16) -> Answ
     let width = 7 + (d[3] / 2) as usize;
     let next = at + width;
     let name = name_at(d, at, width);
-    let old = find_entry(d, Key::File(name));
+    let old = find_old(d, name);
     make_permanent(d, at, next, size);
     empty_old(d, old);
     succeeded(place.first as u16, size, place.date)

@@ -4,7 +4,7 @@
 -- Assumes nothing.
 use Prim.Native.Nat.{ℕ, zero, suc, _+_, _-_, _≤_, _<_}
 use mathlib.Core.Path.{_≡_, refl, sym, ap, _∙_}
-use mathlib.Core.Bool.{Bool, true, false, cond, _||_, or-true}
+use mathlib.Core.Bool.{Bool, true, false, cond, _&&_, _||_, and-true, and-false, or-true}
 use mathlib.Core.List.{List, _∷_}
 use mathlib.Core.Option.{some}
 use native.Mathlib.Omega.{arith}
@@ -15,7 +15,7 @@ use lib.Seq.{getD-set-same, getD-set-other}
 use lib.Dec.{eqb}
 use borrow.Author.Tests.{eqb-true, eqb-false}
 use Rattle.bools.proofs.Bools.{never}
-use Rattle.meaning.specs.Keys.{keyOf, holds, clash}
+use Rattle.meaning.specs.Keys.{keyOf, holds, once, clash}
 use Rattle.meaning.specs.Sound.{any, clashes}
 use Rattle.meaning.specs.declared.Key.{Key}
 use Rattle.directory.specs.Buckets.{numbered, seen, Places, bucketOf, bucketOn, bucketAt, latest, Threaded}
@@ -109,19 +109,19 @@ module _ {d : List ℕ} {w : ℕ} {ps : List ℕ} {n : ℕ} {key : Key} {k : ℕ
   walk-start e = rw e (walk-latest k (omega arith) refl)
 
   module _ {j : ℕ} (v : Walk d w ps n key k j) where
-    pub walk-end : j ≤ 0 → false ≡ any (holds key) (seen d w ps n k)
+    pub walk-end : j ≤ 0 → false ≡ once key && any (holds key) (seen d w ps n k)
     unfolding any seen
     walk-end h =
         let e : j ≡ 0 = omega arith in
-        rw e at (v .same)
+        rw (← (v .same), e) (sym (and-false (once key)))
 
     module _ (h : 0 < j) {found : Bool} (is : found ≡ holds key (take w (drop (getD ps (n - j) 0) d))) where
       here : any (holds key) (seen d w ps n j) ≡ found || any (holds key) (seen d w ps n (j - 1))
       unfolding any numbered
       here = rw (seen-step d w ps n j h, is)
 
-      pub walk-hit : found ≡ true → true ≡ any (holds key) (seen d w ps n k)
-      walk-hit e = sym (rw e at here) ∙ v .same
+      pub walk-hit : found ≡ true → {r : Bool} → r ≡ once key → r ≡ once key && any (holds key) (seen d w ps n k)
+      walk-hit e o = rw (← (v .same), here, e) (o ∙ sym (and-true (once key)))
 
       pub walk-next : {earlier : List ℕ} → Threaded d w ps n earlier k → found ≡ false
           → Walk d w ps n key k (getD earlier j 0)
@@ -171,16 +171,14 @@ module _ {d : List ℕ} {w : ℕ} {ps : List ℕ} {n : ℕ} where
       let e : k ≡ n = omega arith in
       sym (rw e at (t .none))
 
-  -- the next entry, which has this key: whether it is found among those before it is whether it clashes with one of them
+  -- the next entry, which has this key: whether that is found among those before it, and may stand once, is whether it clashes with one
   module _ (g : Places d w ps n) (k : ℕ) (l : k < n) {key : Key} (e : keyOf (take w (drop (getD ps (n - (k + 1)) 0) d)) ≡ some key) where
-    met-clash : {found : Bool} → found ≡ any (holds key) (seen d w ps n k)
+    met-clash : {found : Bool} → found ≡ once key && any (holds key) (seen d w ps n k)
         → any (clash (numbered d w ps n (k + 1))) (seen d w ps n k) ≡ found
     unfolding numbered
-    met-clash h =
-        any-clash key (take w (drop (getD ps (n - (k + 1)) 0) d)) e (g .all (n - (k + 1)) (omega arith) .can) (seen d w ps n k)
-        ∙ sym h
+    met-clash h = any-clash key (take w (drop (getD ps (n - (k + 1)) 0) d)) e (seen d w ps n k) ∙ sym h
 
-    pub table-found : {found : Bool} → found ≡ any (holds key) (seen d w ps n k) → found ≡ true
+    pub table-found : {found : Bool} → found ≡ once key && any (holds key) (seen d w ps n k) → found ≡ true
         → true ≡ clashes (seen d w ps n n)
     unfolding clashes
     table-found h f =
@@ -223,7 +221,7 @@ module _ {d : List ℕ} {w : ℕ} {ps : List ℕ} {n : ℕ} where
               getD-set-other earlier (k + 1) j (getD latests b 0) 0 z ∙ t .threaded .back j a (omega arith)
 
       -- it is put into its bucket
-      pub table-more : {found : Bool} → found ≡ any (holds key) (seen d w ps n k) → found ≡ false
+      pub table-more : {found : Bool} → found ≡ once key && any (holds key) (seen d w ps n k) → found ≡ false
           → Table d w ps n (set latests b (k + 1)) (set earlier (k + 1) (getD latests b 0)) (k + 1)
       unfolding clashes
       table-more h f = record {

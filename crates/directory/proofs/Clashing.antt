@@ -1,9 +1,9 @@
--- Rule 6 by keys. An entry that has a key has no other. So one that cannot clash may be left out of a list: it clashes with none, and
--- none with it. And one that can clash clashes with just the entries that have its key, so that those of other keys need not be
--- looked at. What `once` says of a key is nowhere asked. Assumes nothing.
+-- Rule 6 by keys. An entry without a key may be left out of a list: it clashes with none, and none with it. And one that has a key
+-- clashes with just the entries that have it too, if it may stand once, so that those of other keys need not be looked at. What `once`
+-- says of a key is nowhere asked. Assumes nothing.
 use Prim.Native.Nat.{ℕ, zero, suc, _+_, _≤_, _<_}
 use mathlib.Core.Path.{_≡_, refl, sym, _∙_}
-use mathlib.Core.Bool.{Bool, true, false, cond, _&&_, _||_, true≢false, false≢true}
+use mathlib.Core.Bool.{Bool, true, false, cond, _&&_, _||_, and-false, true≢false, false≢true}
 use mathlib.Core.List.{List, [], _∷_}
 use mathlib.Core.Option.{Option, none, some}
 use native.Mathlib.Omega.{arith}
@@ -21,32 +21,34 @@ use Rattle.meaning.specs.Sound.{any, clashes}
 use Rattle.walks.proofs.Lists.{none-any}
 use Rattle.walks.proofs.Words.{word, word0}
 use Rattle.walks.proofs.Keyed.{has-key}
-use Rattle.directory.specs.Candidates.{onceOn, canClash, candidates}
+use Rattle.directory.specs.Candidates.{isSome, hasKey, candidates}
 use Rattle.directory.specs.Buckets.{seen}
 
 -- the slot at p by what code reads of it
 module _ (d : List ℕ) (p w : ℕ) (wide : 7 ≤ w) where
-  -- whether it can clash, where k is its kind
-  pub can-by-kind : (k : Kind) → k ≡ kindOf (getD d p 0) → onceOn (keyIn k (take w (drop p d))) ≡ canClash (take w (drop p d))
-  unfolding canClash keyOf
-  can-by-kind k e = rw (word0 d p w (omega arith), e)
-
-  -- one that is neither permanent nor tentative can not
-  pub can-not : isPermanent (kindOf (getD d p 0)) ≡ false → isTentative (kindOf (getD d p 0)) ≡ false → false ≡ canClash (take w (drop p d))
-  unfolding canClash keyOf
-  can-not f t = rw (word0 d p w (omega arith)) (go (kindOf (getD d p 0)) f t)
+  -- whether it has a key: it is permanent, or else tentative
+  by-kind : hasKey (take w (drop p d)) ≡ isPermanent (kindOf (getD d p 0)) || isTentative (kindOf (getD d p 0))
+  unfolding hasKey keyOf
+  by-kind = rw (word0 d p w (omega arith)) (go (kindOf (getD d p 0)))
     where
-      go : (k : Kind) → isPermanent k ≡ false → isTentative k ≡ false → false ≡ onceOn (keyIn k (take w (drop p d)))
-      go Tentative f t = absurd (true≢false t)
-      go Empty f t = refl
-      go Permanent f t = absurd (true≢false f)
-      go End f t = refl
-      go Unknown f t = refl
+      go : (k : Kind) → isSome (keyIn k (take w (drop p d))) ≡ isPermanent k || isTentative k
+      go Tentative = refl
+      go Empty = refl
+      go Permanent = refl
+      go End = refl
+      go Unknown = refl
 
-  pub channel-is : getD d (p + 5) 0 ≡ channelOf (take w (drop p d))
+  pub key-permanent : {t : Bool} → t ≡ isPermanent (kindOf (getD d p 0)) → t ≡ true → true ≡ hasKey (take w (drop p d))
+  key-permanent e h = sym (by-kind ∙ (rw (← e, h)))
+
+  pub key-else : {t u : Bool} → t ≡ isPermanent (kindOf (getD d p 0)) → t ≡ false → u ≡ isTentative (kindOf (getD d p 0))
+      → u ≡ hasKey (take w (drop p d))
+  key-else e h f = f ∙ sym (by-kind ∙ (rw (← e, h)))
+
+  channel-is : getD d (p + 5) 0 ≡ channelOf (take w (drop p d))
   channel-is = sym (word d p w 5 (omega arith))
 
-  -- the key of one that can
+  -- the key of one that has any
   pub open-key : (t : Bool) → t ≡ isTentative (kindOf (getD d p 0)) → t ≡ true
       → keyOf (take w (drop p d)) ≡ some (Open (getD d (p + 5) 0))
   unfolding keyOf
@@ -59,14 +61,14 @@ module _ (d : List ℕ) (p w : ℕ) (wide : 7 ≤ w) where
       go End h = absurd (false≢true h)
       go Unknown h = absurd (false≢true h)
 
-  pub file-key : (t : Bool) → t ≡ isTentative (kindOf (getD d p 0)) → t ≡ false → canClash (take w (drop p d)) ≡ true
+  pub file-key : (t : Bool) → t ≡ isTentative (kindOf (getD d p 0)) → t ≡ false → hasKey (take w (drop p d)) ≡ true
       → keyOf (take w (drop p d)) ≡ some (File (nameOf (take w (drop p d))))
-  unfolding keyOf
-  file-key t e h can =
+  unfolding hasKey keyOf
+  file-key t e h has =
       rw (word0 d p w (omega arith))
-      (go (kindOf (getD d p 0)) (sym e ∙ h) (can-by-kind (kindOf (getD d p 0)) refl ∙ can))
+      (go (kindOf (getD d p 0)) (sym e ∙ h) (rw (word0 d p w (omega arith)) at has))
     where
-      go : (k : Kind) → isTentative k ≡ false → onceOn (keyIn k (take w (drop p d))) ≡ true
+      go : (k : Kind) → isTentative k ≡ false → isSome (keyIn k (take w (drop p d))) ≡ true
           → keyIn k (take w (drop p d)) ≡ some (File (nameOf (take w (drop p d))))
       go Permanent h c = refl
       go Tentative h c = absurd (true≢false h)
@@ -74,35 +76,32 @@ module _ (d : List ℕ) (p w : ℕ) (wide : 7 ≤ w) where
       go End h c = absurd (false≢true c)
       go Unknown h c = absurd (false≢true c)
 
--- an entry that cannot clash
-module _ (e f : Entry) (h : canClash e ≡ false) where
+-- an entry without a key
+module _ (e f : Entry) (h : hasKey e ≡ false) where
   no-first : clash e f ≡ false
-  unfolding canClash clash
+  unfolding hasKey clash
   no-first = go (keyOf e) h
     where
-      go : (o : Option Key) → onceOn o ≡ false → clashOn o f ≡ false
+      go : (o : Option Key) → isSome o ≡ false → clashOn o f ≡ false
       go none q = refl
-      go (some k) q = rw q
+      go (some k) q = absurd (true≢false q)
 
   no-second : clash f e ≡ false
-  unfolding canClash clash
+  unfolding hasKey clash
   no-second = go (keyOf f)
     where
       go : (o : Option Key) → clashOn o e ≡ false
       go none = refl
       go (some k) =
           never (once k && holds k e)
-          (λ q.
-          let p = both (once k) (holds k e) q in
-          let n : once k ≡ false = rw (has-key k e (p .1)) at h in
-          true≢false (sym (p .0) ∙ n))
+          (λ q. true≢false (rw (has-key k e (both (once k) (holds k e) q .1)) at h))
 
 any-candidates : (f : Entry) (es : List Entry) → any (clash f) (candidates es) ≡ any (clash f) es
 unfolding candidates any
 any-candidates f [] = refl
-any-candidates f (e ∷ es) = go (canClash e) refl (any-candidates f es)
+any-candidates f (e ∷ es) = go (hasKey e) refl (any-candidates f es)
   where
-    go : (t : Bool) → canClash e ≡ t → any (clash f) (candidates es) ≡ any (clash f) es
+    go : (t : Bool) → hasKey e ≡ t → any (clash f) (candidates es) ≡ any (clash f) es
         → any (clash f) (cond t (e ∷ candidates es) (candidates es)) ≡ clash f e || any (clash f) es
     go true q r = rw r
     go false q r = rw (no-second e f q) r
@@ -110,25 +109,27 @@ any-candidates f (e ∷ es) = go (canClash e) refl (any-candidates f es)
 pub clashes-candidates : (es : List Entry) → clashes (candidates es) ≡ clashes es
 unfolding candidates clashes
 clashes-candidates [] = refl
-clashes-candidates (e ∷ es) = go (canClash e) refl (clashes-candidates es)
+clashes-candidates (e ∷ es) = go (hasKey e) refl (clashes-candidates es)
   where
-    go : (t : Bool) → canClash e ≡ t → clashes (candidates es) ≡ clashes es
+    go : (t : Bool) → hasKey e ≡ t → clashes (candidates es) ≡ clashes es
         → clashes (cond t (e ∷ candidates es) (candidates es)) ≡ any (clash e) es || clashes es
     go true q r = rw (any-candidates e es, r)
     go false q r = rw (none-any (clash e) es [] (λ i l. no-first e (getD es i []) q)) r
 
--- an entry that can clash, and has this key, against others
-module _ (key : Key) (e : Entry) (has : keyOf e ≡ some key) (can : canClash e ≡ true) where
-  clash-holds : (f : Entry) → clash e f ≡ holds key f
-  unfolding canClash clash
-  clash-holds f =
-      let o : once key ≡ true = rw has at can in
-      rw (has, o)
+-- an entry that has this key, against others
+module _ (key : Key) (e : Entry) (has : keyOf e ≡ some key) where
+  clash-holds : (f : Entry) → clash e f ≡ once key && holds key f
+  unfolding clash
+  clash-holds f = rw has
 
-  pub any-clash : (es : List Entry) → any (clash e) es ≡ any (holds key) es
+  pub any-clash : (es : List Entry) → any (clash e) es ≡ once key && any (holds key) es
   unfolding any
-  any-clash [] = refl
-  any-clash (f ∷ es) = rw (clash-holds f, any-clash es)
+  any-clash [] = sym (and-false (once key))
+  any-clash (f ∷ es) = rw (clash-holds f, any-clash es) (go (once key))
+    where
+      go : (o : Bool) → (o && holds key f) || (o && any (holds key) es) ≡ o && (holds key f || any (holds key) es)
+      go true = refl
+      go false = refl
 
 -- fewer than two entries don't clash
 pub few-seen : (d : List ℕ) (w : ℕ) (ps : List ℕ) (m n : ℕ) → n < 2 → clashes (seen d w ps m n) ≡ false

@@ -1,4 +1,4 @@
--- The list of the places of entries that can clash. A place written after n others is a place more at the end of the list. Each loop
+-- The list of the places of entries that have a key. A place written after n others is a place more at the end of the list. Each loop
 -- keeps one equation: the places listed, and then those of the entries still ahead, are all; once for the slots of a segment, and once
 -- for the segments of the chain. Assumes nothing.
 use Prim.Native.Nat.{ℕ, _+_, _*_, _-_, _≤_, _<_}
@@ -18,11 +18,11 @@ use Rattle.walks.proofs.Lists.{chain-over}
 use Rattle.segment.proofs.Ahead.{ahead, ahead-none, ahead-end, ahead-next, first-room}
 use Rattle.chain.specs.Chained.{Chained}
 use Rattle.chain.proofs.Links.{part-is, linkAt, Next, next, chain-next}
-use Rattle.directory.specs.Candidates.{canClash, placesOf, placesIn, Grown, AllListed}
+use Rattle.directory.specs.Candidates.{hasKey, placesOf, placesIn, Grown, AllListed}
 
--- one entry more, which can clash or not
+-- one entry more, which has a key or not
 module _ {ps : List ℕ} {n : ℕ} (w p : ℕ) (e : Entry) (long : length ps ≡ 2233) where
-  pub listed-entry : n < 2232 → canClash e ≡ true → Grown ps n (set ps n p) (n + 1) 1 (placesOf w p (e ∷ []))
+  pub listed-entry : n < 2232 → hasKey e ≡ true → Grown ps n (set ps n p) (n + 1) 1 (placesOf w p (e ∷ []))
   unfolding placesOf
   listed-entry h c = record {
     long = length-set ps n p ∙ long;
@@ -30,14 +30,14 @@ module _ {ps : List ℕ} {n : ℕ} (w p : ℕ) (e : Entry) (long : length ps ≡
     same = rw (c, add-one n) (take-suc-set ps n p (omega arith));
   }
 
-  pub passed-entry : canClash e ≡ false → Grown ps n ps n 1 (placesOf w p (e ∷ []))
+  pub passed-entry : hasKey e ≡ false → Grown ps n ps n 1 (placesOf w p (e ∷ []))
   unfolding placesOf
   passed-entry c = record { long = long; grown = omega arith; same = rw c (sym (append-nil (take n ps))) }
 
 -- the places of an entry and of those after it
 places-cons : (w p : ℕ) (e : Entry) (es : List Entry) → placesOf w p (e ∷ es) ≡ placesOf w p (e ∷ []) ++ placesOf w (p + w) es
 unfolding placesOf
-places-cons w p e es = go (canClash e)
+places-cons w p e es = go (hasKey e)
   where
     go : (t : Bool)
         → cond t (p ∷ placesOf w (p + w) es) (placesOf w (p + w) es) ≡ cond t (p ∷ []) [] ++ placesOf w (p + w) es

@@ -1,6 +1,6 @@
 -- From places back to entries. A slot of a segment is read at its place in the directory too, since it ends within the segment's 512
--- words. So the places listed are those of all entries that can clash, in chain order, and to walk the list from its end is to walk
--- these entries. Assumes nothing.
+-- words. So the places listed are those of all entries that have a key, in chain order, and to walk the list from its end is to
+-- walk these entries. Assumes nothing.
 use Prim.Native.Nat.{ℕ, zero, suc, _+_, _*_, _-_, _≤_, _<_}
 use mathlib.Core.Path.{_≡_, refl, sym, ap, _∙_}
 use mathlib.Core.Bool.{Bool, true, false, cond}
@@ -16,10 +16,10 @@ use Rattle.walks.specs.Links.{linked}
 use Rattle.chain.specs.Chained.{Chained}
 use Rattle.chain.proofs.Links.{linkAt, next}
 use Rattle.walks.proofs.Words.{base, header, slot-there}
-use Rattle.directory.specs.Candidates.{canClash, candidates, placesOf, placesIn, AllListed}
+use Rattle.directory.specs.Candidates.{hasKey, candidates, placesOf, placesIn, AllListed}
 use Rattle.directory.specs.Buckets.{numbered, seen, Candidate, Places}
 
--- ps are the places of es, and all of these can clash
+-- ps are the places of es, and all of these have a key
 data Of (d : List ℕ) (w : ℕ) : List ℕ → List Entry → Type 0 where
   nothing : Of d w [] []
   more : {p : ℕ} {ps : List ℕ} {es : List Entry} → Candidate d w p → Of d w ps es → Of d w (p ∷ ps) (take w (drop p d) ∷ es)
@@ -65,7 +65,7 @@ module _ (d : List ℕ) (w : ℕ) (ps : List ℕ) (n : ℕ) (long : n ≤ length
 candidates-append : (xs ys : List Entry) → candidates (xs ++ ys) ≡ candidates xs ++ candidates ys
 unfolding candidates
 candidates-append [] ys = refl
-candidates-append (x ∷ xs) ys = rw (candidates-append xs ys) (go (canClash x))
+candidates-append (x ∷ xs) ys = rw (candidates-append xs ys) (go (hasKey x))
   where
     go : (t : Bool)
         → cond t (x ∷ (candidates xs ++ candidates ys)) (candidates xs ++ candidates ys)
@@ -86,7 +86,7 @@ module _ (d : List ℕ) (s w : ℕ) (low : 1 ≤ s) (high : 512 * s ≤ length d
       let m : suc n * w ≡ n * w + w = suc-mul n w in
       let a : base s + q + w ≡ base s + (q + w) = omega arith in
       let after = of-slots n (q + w) (omega arith) in
-      rw (drop-drop w q g) (go (isEnd (kind e)) (canClash e) refl (slot-there d s w q (omega arith)) (omega arith) (rw a after))
+      rw (drop-drop w q g) (go (isEnd (kind e)) (hasKey e) refl (slot-there d s w q (omega arith)) (omega arith) (rw a after))
     where
       e : Entry
       e = take w (drop q g)
@@ -94,11 +94,11 @@ module _ (d : List ℕ) (s w : ℕ) (low : 1 ≤ s) (high : 512 * s ≤ length d
       rest : List Entry
       rest = upto (chunks n w (drop (q + w) g))
 
-      go : (t u : Bool) → canClash e ≡ u → e ≡ take w (drop (base s + q) d) → base s + q + w ≤ length d
+      go : (t u : Bool) → hasKey e ≡ u → e ≡ take w (drop (base s + q) d) → base s + q + w ≤ length d
           → Of d w (placesOf w (base s + q + w) rest) (candidates rest)
           → Of d w (placesOf w (base s + q) (cond t [] (e ∷ rest))) (candidates (cond t [] (e ∷ rest)))
       go true u c i f r = nothing
-      go false true c i f r = rw (c, i) (more (record { fits = f; can = rw i at c }) r)
+      go false true c i f r = rw (c, i) (more (record { fits = f; keyed = rw i at c }) r)
       go false false c i f r = rw c r
 
 of-chain : (d : List ℕ) → Chained d → (n s : ℕ) → linked n d s ≡ true

@@ -10,7 +10,7 @@ use Rattle.meaning.specs.declared.Key.{Key}
 use Rattle.meaning.specs.declared.Key.the-variants.{File, Open}
 use Rattle.meaning.specs.Words.{Entry}
 use Rattle.meaning.specs.Keys.{keyOf}
-use Rattle.directory.specs.Candidates.{canClash}
+use Rattle.directory.specs.Candidates.{hasKey}
 
 -- n places are listed in ps, of entries of w words. They are numbered from 1 at the list's end: the entry of number j
 unfoldable pub numbered : List ℕ → ℕ → List ℕ → ℕ → ℕ → Entry
@@ -21,10 +21,10 @@ unfoldable pub seen : List ℕ → ℕ → List ℕ → ℕ → ℕ → List Ent
 seen d w ps n zero = []
 seen d w ps n (suc k) = numbered d w ps n (suc k) ∷ seen d w ps n k
 
--- a place of an entry that can clash
+-- a place of an entry that has a key
 pub record Candidate (d : List ℕ) (w p : ℕ) : Type 0 where
   pub fits : p + w ≤ length d
-  pub can : canClash (take w (drop p d)) ≡ true
+  pub keyed : hasKey (take w (drop p d)) ≡ true
 
 -- the list that the first pass made
 pub record Places (d : List ℕ) (w : ℕ) (ps : List ℕ) (n : ℕ) : Type 0 where

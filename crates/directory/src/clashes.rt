@@ -1,13 +1,15 @@
 // Rule 6 in linear time: to compare all pairs of entries would be 2.4 million comparisons on a full volume. So one pass lists the
-// places of the entries that can clash, in chain order, and a second one takes that list from its end and puts each entry into a
+// places of the entries that have a key, in chain order, and a second one takes that list from its end and puts each entry into a
 // bucket by its key: entries that clash meet in one bucket. (Only names chosen to share a bucket make it slow.) Throughout, `width`
 // is the words of a slot, `word` the place in a segment where a slot begins, and `place` that in the directory. The entries listed are
 // numbered from 1 at the list's end: so 0 is none, and those passed so far, the latest first, stand in chain order.
 use meaning::Key;
+use meaning::is_spared;
 use segment::finder;
 use segment::kinds;
 use segment::naming::name_at;
 ghost use mathlib.Core.Path.{_≡_};
+ghost use mathlib.Core.Bool.{_&&_};
 ghost use mathlib.Core.List.{[], _∷_};
 ghost use mathlib.Core.Option.{some};
 ghost use Prim.Native.Nat.{_+_, _≤_, _<_};
@@ -16,7 +18,7 @@ ghost use Rattle.meaning.specs.Words.{slotWords, slots, upto};
 ghost use Rattle.meaning.specs.Keys.{keyOf, holds, once};
 ghost use Rattle.meaning.specs.Sound.{any, clashes, bad6};
 ghost use Rattle.chain.specs.Chained.{Chained};
-ghost use Rattle.directory.specs.Candidates.{canClash, placesOf, Grown, AllListed};
+ghost use Rattle.directory.specs.Candidates.{hasKey, placesOf, Grown, AllListed};
 ghost use Rattle.directory.specs.Buckets.{seen, Candidate, Places, hashed, bucketOf, latest, Threaded};
 
 // A number for each slot of 31 segments with 72 slots each, and number 0.
@@ -25,33 +27,19 @@ const ROOM: usize = 2233;
 // Nearly four for each of the 2,201 entries that a directory can hold: to meet another entry costs as much as a dozen that meet none.
 const BUCKETS: usize = 8192;
 
-// Whether a key may stand once only.
-fn is_once(key: Key) -> bool
-    ensures { λ r. ⌜ r ≡ once key ⌝ }
-{
-    match key {
-        Key::File(_) => true,
-        Key::Open(_) => true,
-    }
-}
-
-// Whether the entry that begins at this word can clash: it has a key, and that may stand once only. All others would only fill
-// the buckets.
-fn can_clash(segment: &[u16], word: usize, width: usize) -> bool
+// Whether the entry that begins at this word has a key. All others can't clash, and would only fill the buckets.
+fn has_key(segment: &[u16], word: usize, width: usize) -> bool
     requires { ⌜ (7 ≤ width) × (word + width ≤ length (now segment)) ⌝ }
-    ensures { λ r. ⌜ r ≡ canClash (take width (drop word (now (segment .entry)))) ⌝ }
+    ensures { λ r. ⌜ r ≡ hasKey (take width (drop word (now (segment .entry)))) ⌝ }
 {
     let status = segment[word];
     if kinds::is_permanent(status) {
-        return is_once(Key::File(name_at(segment, word, width)));
+        return true;
     }
-    if kinds::is_tentative(status) {
-        return is_once(Key::Open(segment[word + 5]));
-    }
-    false
+    kinds::is_tentative(status)
 }
 
-// The place of the entry that begins at this word, listed after `count` others if the entry can clash; the answer is how many are
+// The place of the entry that begins at this word, listed after `count` others if the entry has a key; the answer is how many are
 // listed then.
 fn list_entry(
     segment: &[u16],
@@ -66,7 +54,7 @@ fn list_entry(
     ensures { λ r. ⌜ Grown (now (places .entry)) count (now (places .exit)) r 1
         (placesOf width place (take width (drop word (now (segment .entry))) ∷ [])) ⌝ }
 {
-    if can_clash(segment, word, width) {
+    if has_key(segment, word, width) {
         places[count] = place as u16;
         return count + 1;
     }
@@ -151,8 +139,19 @@ fn bucket_of(key: Key) -> usize
     }
 }
 
-// Whether one of the entries 1 to `passed` has the key. `first` is the latest of them in the key's bucket, and `earlier` leads from
-// each to the one before it there; so the entries of other buckets are never read.
+// Whether a key may stand once only: every one but the spared name.
+fn is_once(key: Key) -> bool
+    ensures { λ r. ⌜ r ≡ once key ⌝ }
+{
+    match key {
+        Key::File(name) => !is_spared(name),
+        Key::Open(_) => true,
+    }
+}
+
+// Whether one of the entries 1 to `passed` has the key, and it may stand once only. `first` is the latest of them in the key's bucket, and
+// `earlier` leads from each to the one before it there; so the entries of other buckets are never read. An entry of the key ends the walk
+// in either case: of many files FILE.BAD each is held to the one before it alone.
 fn met(
     d: &[u16],
     width: usize,
@@ -165,13 +164,13 @@ fn met(
 ) -> bool
     requires { ⌜ Places (now d) width (now places) count × Threaded (now d) width (now places) count (now earlier) passed
         × (first ≡ latest (now d) width (now places) count (bucketOf key) passed) ⌝ }
-    ensures { λ r. ⌜ r ≡ any (holds key) (seen (now (d .entry)) width (now (places .entry)) count passed) ⌝ }
+    ensures { λ r. ⌜ r ≡ once key && any (holds key) (seen (now (d .entry)) width (now (places .entry)) count passed) ⌝ }
 {
     let mut number: usize = first;
     while 0 < number {
         let place = places[count - number] as usize;
         if finder::slot_keyed(d, place, width, key) {
-            return true;
+            return is_once(key);
         }
         number = earlier[number] as usize;
     }

@@ -24,7 +24,7 @@ pub fn serve(d: &mut [u16], v: usize, request: Request) -> Answer
     serve_known(d, v, number, request)
 }
 
-// The permanent file of a name. The words are only read.
+// The permanent file of a name, the first in chain order. The words are only read.
 pub fn lookup(d: &[u16], v: usize, name: Name) -> Answer
     ensures { λ r. ⌜ r ≡ lookup v (now (d .entry)) name .answer ⌝ }
 {

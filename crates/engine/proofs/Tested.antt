@@ -12,6 +12,7 @@ use Rattle.meaning.specs.declared.Op.the-variants.{Lookup, Enter, Close, Abando
 use Rattle.meaning.specs.declared.Name.{Name}
 use Rattle.meaning.specs.declared.Request.{Request}
 use Rattle.meaning.specs.Words.{Row}
+use Rattle.meaning.specs.Keys.{spared}
 use Rattle.meaning.specs.Sound.{fault}
 use Rattle.meaning.specs.Answers.{Outcome, refuse, success, passed, unless, onRow, isNone, fileOf, openOn}
 use Rattle.meaning.specs.Requests.{legal, goodChannel, wordOf, successWith, lookup, delete, abandon, rename, close}
@@ -33,9 +34,13 @@ pub record Call : Type 0 where
 abbrev pub outcome : Call → Outcome
 outcome q = enter (q .v) (q .d) (q .name) (q .size) (q .job) (q .channel) (q .date)
 
--- the tests that it has passed, up to the date's
+-- the tests that its name has passed; and all that it has passed, up to the date's
+pub record Named (q : Call) : Type 0 where
+  pub lawful : legal (q .name) ≡ true
+  pub plain : spared (q .name) ≡ false
+
 pub record Passed (q : Call) : Type 0 where
-  pub named : legal (q .name) ≡ true
+  pub named : Named q
   pub channelled : goodChannel (q .job) (q .channel) ≡ true
   pub sized : goodSize (sizeOf (q .size)) ≡ true
   pub dated : goodDate (q .date) ≡ true
@@ -45,28 +50,31 @@ module _ (q : Call) where
   unfolding enter
   name-wrong e = rw (q .sound, e)
 
-  pub channel-wrong : legal (q .name) ≡ true → goodChannel (q .job) (q .channel) ≡ false → outcome q ≡ refuse 8 (q .d)
+  pub name-spared : legal (q .name) ≡ true → spared (q .name) ≡ true → outcome q ≡ refuse 19 (q .d)
   unfolding enter
-  channel-wrong l e = rw (q .sound, l, e)
+  name-spared l e = rw (q .sound, l, e)
 
-  pub size-wrong : legal (q .name) ≡ true → goodChannel (q .job) (q .channel) ≡ true → goodSize (sizeOf (q .size)) ≡ false
-      → outcome q ≡ refuse 9 (q .d)
+  pub channel-wrong : Named q → goodChannel (q .job) (q .channel) ≡ false → outcome q ≡ refuse 8 (q .d)
   unfolding enter
-  size-wrong l c e = rw (q .sound, l, c, e)
+  channel-wrong n e = rw (q .sound, n .lawful, n .plain, e)
 
-  pub date-wrong : legal (q .name) ≡ true → goodChannel (q .job) (q .channel) ≡ true → goodSize (sizeOf (q .size)) ≡ true
+  pub size-wrong : Named q → goodChannel (q .job) (q .channel) ≡ true → goodSize (sizeOf (q .size)) ≡ false → outcome q ≡ refuse 9 (q .d)
+  unfolding enter
+  size-wrong n c e = rw (q .sound, n .lawful, n .plain, c, e)
+
+  pub date-wrong : Named q → goodChannel (q .job) (q .channel) ≡ true → goodSize (sizeOf (q .size)) ≡ true
       → goodDate (q .date) ≡ false → outcome q ≡ refuse 9 (q .d)
   unfolding enter
-  date-wrong l c s e = rw (q .sound, l, c, s, e)
+  date-wrong n c s e = rw (q .sound, n .lawful, n .plain, c, s, e)
 
   pub in-use : Passed q → isNone (openOn (q .d) (wordOf (q .job) (q .channel))) ≡ false → outcome q ≡ refuse 10 (q .d)
   unfolding enter
-  in-use p e = rw (q .sound, p .named, p .channelled, p .sized, p .dated, e)
+  in-use p e = rw (q .sound, p .named .lawful, p .named .plain, p .channelled, p .sized, p .dated, e)
 
   pub let-in : Passed q → openOn (q .d) (wordOf (q .job) (q .channel)) ≡ none
       → outcome q ≡ entering (q .d) (q .name) (sizeOf (q .size)) (wordOf (q .job) (q .channel)) (q .date)
   unfolding enter entering
-  let-in p e = rw (q .sound, p .named, p .channelled, p .sized, p .dated, e)
+  let-in p e = rw (q .sound, p .named .lawful, p .named .plain, p .channelled, p .sized, p .dated, e)
 
 -- a lookup changes nothing
 pub looked-up : (v : ℕ) (d : List ℕ) (n : Name) → lookup v d n .words ≡ d

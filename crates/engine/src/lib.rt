@@ -17,6 +17,7 @@ use meaning::Key;
 use meaning::Name;
 use meaning::Op;
 use meaning::Request;
+use meaning::is_spared;
 use meaning::refused;
 use segment::finder::Found;
 ghost use mathlib.Core.Path.{_≡_};
@@ -40,6 +41,9 @@ pub fn enter_sound(
 {
     if !is_legal(name) {
         return refused(7);
+    }
+    if is_spared(name) {
+        return refused(19);
     }
     if !is_channel(job, channel) {
         return refused(8);

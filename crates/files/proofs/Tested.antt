@@ -9,7 +9,7 @@ use mathlib.Core.Option.{Option, none, some}
 use Rattle.meaning.specs.declared.Name.{Name}
 use Rattle.meaning.specs.declared.Key.the-variants.{File}
 use Rattle.meaning.specs.Words.{nameWord, name2Word, extensionWord, Row, rows}
-use Rattle.meaning.specs.Keys.{holds}
+use Rattle.meaning.specs.Keys.{holds, spared}
 use Rattle.meaning.specs.Sound.{fault}
 use Rattle.meaning.specs.Answers.{refuse, success, unless, onRow, find, fileOf, put, write}
 use Rattle.meaning.specs.Requests.{legal, successWith, renaming, lookup, delete, rename}
@@ -42,9 +42,13 @@ module _ (v : ℕ) (d : List ℕ) (h : fault v d ≡ 0) (n : Name) where
   unfolding delete
   delete-illegal l = rw (h, l)
 
-  pub delete-legal : legal n ≡ true → delete v d n ≡ emptied d (File n) 13
+  pub delete-spared : legal n ≡ true → spared n ≡ true → delete v d n ≡ refuse 19 d
+  unfolding delete
+  delete-spared l s = rw (h, l, s)
+
+  pub delete-legal : legal n ≡ true → spared n ≡ false → delete v d n ≡ emptied d (File n) 13
   unfolding delete emptied fileOf
-  delete-legal l = rw (h, l)
+  delete-legal l s = rw (h, l, s)
 
   pub rename-old-illegal : (new : Name) → legal n ≡ false → rename v d n new ≡ refuse 7 d
   unfolding rename
@@ -54,9 +58,19 @@ module _ (v : ℕ) (d : List ℕ) (h : fault v d ≡ 0) (n : Name) where
   unfolding rename
   rename-new-illegal new l m = rw (h, l, m)
 
-  pub rename-legal : (new : Name) → legal n ≡ true → legal new ≡ true → rename v d n new ≡ renamed d n new
+  pub rename-old-spared : (new : Name) → legal n ≡ true → legal new ≡ true → spared n ≡ true → rename v d n new ≡ refuse 19 d
+  unfolding rename
+  rename-old-spared new l m s = rw (h, l, m, s)
+
+  pub rename-new-spared : (new : Name) → legal n ≡ true → legal new ≡ true → spared n ≡ false → spared new ≡ true
+      → rename v d n new ≡ refuse 19 d
+  unfolding rename
+  rename-new-spared new l m s t = rw (h, l, m, s, t)
+
+  pub rename-legal : (new : Name) → legal n ≡ true → legal new ≡ true → spared n ≡ false → spared new ≡ false
+      → rename v d n new ≡ renamed d n new
   unfolding rename renamed
-  rename-legal new l m = rw (h, l, m)
+  rename-legal new l m s t = rw (h, l, m, s, t)
 
 module _ (d : List ℕ) (old new : Name) where
   pub renamed-none : foundOf (find (holds (File old)) (rows d)) ≡ Nothing → renamed d old new ≡ refuse 13 d

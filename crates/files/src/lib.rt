@@ -1,5 +1,6 @@
 // The requests on a permanent file, by its name, on a directory known to be sound: lookup, delete and rename. Each is refused by its
-// number, from 7 on and in the order of the numbers, or carried out. A refusal answers zeros and changes no word.
+// number, from 7 on and in the order of the numbers (but for 19, which comes straight after 7), or carried out. A refusal answers zeros and
+// changes no word.
 use edits::change::give_name;
 use find::find_entry;
 use find::found::answered;
@@ -7,6 +8,7 @@ use find::found::empty_found;
 use meaning::Answer;
 use meaning::Key;
 use meaning::Name;
+use meaning::is_spared;
 use meaning::refused;
 use names::is_legal_name;
 use segment::finder::Found;
@@ -45,6 +47,9 @@ pub fn delete_sound(d: &mut [u16], v: usize, name: Name) -> Answer
     if !is_legal(name) {
         return refused(7);
     }
+    if is_spared(name) {
+        return refused(19);
+    }
     empty_found(d, v, Key::File(name), 13)
 }
 
@@ -77,6 +82,12 @@ pub fn rename_sound(d: &mut [u16], v: usize, old: Name, new: Name) -> Answer
     }
     if !is_legal(new) {
         return refused(7);
+    }
+    if is_spared(old) {
+        return refused(19);
+    }
+    if is_spared(new) {
+        return refused(19);
     }
     rename_found(d, v, old, new)
 }

@@ -1,5 +1,5 @@
 -- The writes of a close are good: the tentative entry becomes the file, the empty entry after it grows by what the file lacks,
--- and a file of the same name that was there becomes empty. Four cases say what stands at a place afterwards; the rest is read
+-- and the file that gives way to it, if one does, becomes empty. Four cases say what stands at a place afterwards; the rest is read
 -- off them.
 use Prim.Native.Nat.{ℕ, _+_, _*_, _-_, _≤_}
 use native.Mathlib.Decide.{ℕ-discrete}
@@ -55,7 +55,8 @@ empty≢permanent h = let z : _≡_ {A = ℕ} 0 1 = cc in omega arith
 
 module _ (d : List ℕ) (st : All (Stand d) (rows d)) (r : Row) (s : Stand d r) (y : ℕ) (h : holds (Open y) (r .entry) ≡ true)
     (only : All (Only (holds (Open y)) (r .at)) (rows d)) (n : ℕ) (least : n ≤ blocks (r .entry)) (o : Option Row)
-    (is-old : (x : Row) → o ≡ some x → Stand d x × (holds (File (nameOf (r .entry))) (x .entry) ≡ true))
+    (is-old : (x : Row) → o ≡ some x
+    → Stand d x × (holds (File (nameOf (r .entry))) (x .entry) ≡ true) × (once (File (nameOf (r .entry))) ≡ true))
     (one-old : once (File (nameOf (r .entry))) ≡ true
     → All (λ (x : Row). holds (File (nameOf (r .entry))) (x .entry) ≡ true → Replaced o x) (rows d)) where
   abbrev w : ℕ
@@ -184,13 +185,13 @@ module _ (d : List ℕ) (st : All (Stand d) (rows d)) (r : Row) (s : Stand d r) 
   touched : (p : ℕ) (e : Entry) → Spot p e → Touch C (δ p) (f p) e
   touched p e (here a g) =
       rw (g, ← a)
-      (made (Open y) (File (nameOf (r .entry))) (inl refl) key-at (inr refl) new-key (new-file .permanent)
+      (made (Open y) (File (nameOf (r .entry))) (inl refl) (once-open y) key-at (inr refl) new-key (new-file .permanent)
       (file-short _ _ new-file (s .fine (is-open y (r .entry) h .tentative)))
       (unmoved (r .at) (λ i. omega arith)))
   touched p e (beyond b g) = rw (g, ← b) (area (next .1) (grown-at .kind ∙ next .1))
   touched p e (old x i z a b g) =
       rw (g, ← z)
-      (gone (File (nameOf (r .entry))) (inr refl) (old-key x i) (cleared (f (x .at)) (slot-seven d (x .at) (is-old x i .0 .slot)) .kind)
+      (gone (File (nameOf (r .entry))) (inr refl) (is-old x i .2) (old-key x i) (cleared (f (x .at)) (slot-seven d (x .at) (is-old x i .0 .slot)) .kind)
       (unmoved (x .at) (λ j. b (j ∙ z))))
   touched p e (elsewhere a b c g) = keep g (unmoved p b)
 
@@ -301,6 +302,7 @@ module _ (d : List ℕ) (st : All (Stand d) (rows d)) (r : Row) (s : Stand d r) 
             (made-source d (write d ws) (Open y) (File (nameOf (r .entry))) (once-open y) channel-gone file-comes);
         gone = channel-gone;
         made = file-comes;
+        key = ap (holds (File (nameOf (r .entry)))) entry-after ∙ new-key;
         length = ap blocks entry-after ∙ closed-at .blocks;
         date = ap dateOf entry-after ∙ closed-at .date ∙ ap dateOf (sym (s .is));
       }

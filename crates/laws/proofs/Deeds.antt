@@ -3,23 +3,23 @@
 use Prim.Native.Nat.{ℕ, suc, _≤_}
 use mathlib.Core.Path.{_≡_, refl, sym, ap, _∙_, subst}
 use mathlib.Core.Logic.{_⊎_, inl, inr, ⊎-elim}
-use mathlib.Core.Bool.{Bool, true, false, cond, _&&_, true≢false}
+use mathlib.Core.Bool.{Bool, true, false, cond, _&&_, _||_, true≢false}
 use mathlib.Core.List.{List}
 use mathlib.Core.Option.{Option, none, some, Option·none-ne-some}
 use lib.Dec.{leb}
-use borrow.Author.Tests.{leb-true}
-use Rattle.bools.proofs.Bools.{both}
+use borrow.Author.Tests.{leb-true, not-true}
+use Rattle.bools.proofs.Bools.{both, neither}
 use Rattle.meaning.specs.declared.Name.{Name}
 use Rattle.meaning.specs.Words.{nameOf, blocks, Row, rows}
 use Rattle.meaning.specs.Answers.{find, fileOf, openOn}
-use Rattle.meaning.specs.Requests.{legal, emptying, goodChannel, wordOf, renaming, closing}
+use Rattle.meaning.specs.Requests.{legal, emptying, goodChannel, wordOf, renaming, givesWay, closing}
 use Rattle.meaning.specs.declared.Key.{Key}
 use Rattle.meaning.specs.declared.Key.the-variants.{File, Open}
-use Rattle.meaning.specs.Keys.{holds, once}
+use Rattle.meaning.specs.Keys.{holds, spared, once}
 use Rattle.laws.specs.Order.{OnOpen}
 use Rattle.walks.specs.Lists.{All}
 use Rattle.walks.proofs.Alls.{all-map}
-use Rattle.rules.proofs.Keys.{once-file, once-open}
+use Rattle.rules.proofs.Keys.{once-file, once-open, no-old, old-file}
 use Rattle.rules.proofs.Soundness.{Sound}
 use Rattle.rules.proofs.Rows.{Stand, standing, few-rows, find-some, Fails, find-none, Only, find-only}
 use Rattle.laws.proofs.Entries.{legal-short}
@@ -36,6 +36,18 @@ file-key d n = refl
 pub open-key : (d : List ℕ) (x : ℕ) → openOn d x ≡ find (holds (Open x)) (rows d)
 unfolding openOn
 open-key d x = refl
+
+-- the file that gives way to a new one is found by its name, which may stand once; and of such a name it is what is found
+old-is : (d : List ℕ) (n : Name) (r : Row) → givesWay d n ≡ some r → (find (holds (File n)) (rows d) ≡ some r) × (once (File n) ≡ true)
+old-is d n r e = go (spared n) refl
+  where
+    go : (b : Bool) → spared n ≡ b → (find (holds (File n)) (rows d) ≡ some r) × (once (File n) ≡ true)
+    go true s = absurd (Option·none-ne-some r (sym (no-old d n s) ∙ e))
+    go false s = (sym (old-file d n s) ∙ e, once-file n s)
+
+old-once : (d : List ℕ) (n : Name) → once (File n) ≡ true → find (holds (File n)) (rows d) ≡ givesWay d n
+unfolding once
+old-once d n o = sym (old-file d n (not-true (spared n) o))
 
 pub record FoundBy (d : List ℕ) (k : Key) (r : Row) : Type 0 where
   pub stand : Stand d r
@@ -55,7 +67,7 @@ module _ (v : ℕ) (d : List ℕ) (s : Sound v d) where
   emptied : (k : Key) → once k ≡ true → (r : Row) → find (holds k) (rows d) ≡ some r → Gone d k (emptying r)
   emptied k o r e =
       let f = found-by v d s k r e in
-      clearing d st r (f .stand) k (f .has) (f .only o)
+      clearing d st r (f .stand) k o (f .has) (f .only o)
 
   pub file-gone : (n : Name) → once (File n) ≡ true → (r : Row) → fileOf d n ≡ some r → Gone d (File n) (emptying r)
   file-gone n o r e = emptied (File n) o r (sym (file-key d n) ∙ e)
@@ -86,9 +98,12 @@ module _ (v : ℕ) (d : List ℕ) (s : Sound v d) where
   file-made y r e n l =
       let k = File (nameOf (r .entry)) in
       let f = found-by v d s (Open y) r (sym (open-key d y) ∙ e) in
-      making d st r (f .stand) y (f .has) (f .only (once-open y)) n l (fileOf d (nameOf (r .entry)))
-      (λ x g. let z = found-by v d s k x (sym (file-key d (nameOf (r .entry))) ∙ g) in (z .stand, z .has))
-      (λ o. one-replaced k o (fileOf d (nameOf (r .entry))) (sym (file-key d (nameOf (r .entry)))))
+      making d st r (f .stand) y (f .has) (f .only (once-open y)) n l (givesWay d (nameOf (r .entry)))
+      (λ x g.
+      let i = old-is d (nameOf (r .entry)) x g in
+      let z = found-by v d s k x (i .0) in
+      (z .stand, z .has, i .1))
+      (λ o. one-replaced k o (givesWay d (nameOf (r .entry))) (old-once d (nameOf (r .entry)) o))
 
 -- the channel of a request, where it is a channel and is open; what a close and an abandon name
 abbrev pub openAt : List ℕ → ℕ → ℕ → Option Row
@@ -119,12 +134,14 @@ pub record DeleteDone (d : List ℕ) (name : Name) : Type 0 where
 
 pub delete-view : (d : List ℕ) (name : Name) → Refused (deletePlan d name) ⊎ DeleteDone d name
 unfolding deletePlan
-delete-view d name = go (legal name) refl (fileOf d name) refl
+delete-view d name = go (legal name) refl (spared name) refl (fileOf d name) refl
   where
-    go : (x : Bool) → legal name ≡ x → (o : Option Row) → fileOf d name ≡ o → Refused (deletePlan d name) ⊎ DeleteDone d name
-    go false i o e = inl (record { less = 6; plan = rw i })
-    go true i none e = inl (record { less = 12; plan = rw (i, e) })
-    go true i (some r) e = inr (record { row = r; legal = i; single = once-file name; old = e; plan = rw (i, e) })
+    go : (x : Bool) → legal name ≡ x → (y : Bool) → spared name ≡ y → (o : Option Row) → fileOf d name ≡ o
+        → Refused (deletePlan d name) ⊎ DeleteDone d name
+    go false i y j o e = inl (record { less = 6; plan = rw i })
+    go true i true j o e = inl (record { less = 18; plan = rw (i, j) })
+    go true i false j none e = inl (record { less = 12; plan = rw (i, j, e) })
+    go true i false j (some r) e = inr (record { row = r; legal = i; single = once-file name j; old = e; plan = rw (i, j, e) })
 
 pub record AbandonDone (d : List ℕ) (job ch : ℕ) : Type 0 where
   pub row : Row
@@ -154,25 +171,28 @@ pub record RenameDone (d : List ℕ) (old new : Name) : Type 0 where
 
 pub rename-view : (d : List ℕ) (old new : Name) → Refused (renamePlan d old new) ⊎ RenameDone d old new
 unfolding renamePlan
-rename-view d old new = go (legal old && legal new) refl (fileOf d old) refl (fileOf d new) refl
+rename-view d old new = go (legal old && legal new) refl (spared old || spared new) refl (fileOf d old) refl (fileOf d new) refl
   where
-    go : (x : Bool) → legal old && legal new ≡ x → (o : Option Row) → fileOf d old ≡ o → (o′ : Option Row) → fileOf d new ≡ o′
+    go : (x : Bool) → legal old && legal new ≡ x → (y : Bool) → spared old || spared new ≡ y
+        → (o : Option Row) → fileOf d old ≡ o → (o′ : Option Row) → fileOf d new ≡ o′
         → Refused (renamePlan d old new) ⊎ RenameDone d old new
-    go false i o e o′ e′ = inl (record { less = 6; plan = rw i })
-    go true i none e o′ e′ = inl (record { less = 12; plan = rw (i, e) })
-    go true i (some r) e (some r′) e′ = inl (record { less = 13; plan = rw (i, e, e′) })
-    go true i (some r) e none e′ =
+    go false i y j o e o′ e′ = inl (record { less = 6; plan = rw i })
+    go true i true j o e o′ e′ = inl (record { less = 18; plan = rw (i, j) })
+    go true i false j none e o′ e′ = inl (record { less = 12; plan = rw (i, j, e) })
+    go true i false j (some r) e (some r′) e′ = inl (record { less = 13; plan = rw (i, j, e, e′) })
+    go true i false j (some r) e none e′ =
         let l = both (legal old) (legal new) i in
+        let n = neither (spared old) (spared new) j in
         inr
         (record {
           row = r;
           legal-old = l .0;
           legal-new = l .1;
-          single-old = once-file old;
-          single-new = once-file new;
+          single-old = once-file old (n .0);
+          single-new = once-file new (n .1);
           was = e;
           none-new = e′;
-          plan = rw (i, e, e′);
+          plan = rw (i, j, e, e′);
         })
 
 -- the final length is n

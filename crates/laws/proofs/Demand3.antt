@@ -1,5 +1,5 @@
 -- Demand 3. After one request of the batch the others are still apart, so the batch may be taken request by request: it keeps
--- the directory sound, a key that none names is found as before, and two neighbours may be exchanged. Every order comes about
+-- the directory sound, all rows of a key that none names are as before, and two neighbours may be exchanged. Every order comes about
 -- by exchanges of neighbours.
 use Prim.Native.Nat.{ℕ}
 use native.Mathlib.Omega.{arith}
@@ -15,13 +15,14 @@ use Rattle.meaning.specs.Batch.{serve, wordsAfter, answersTo}
 use Rattle.meaning.specs.declared.Key.{Key}
 use Rattle.meaning.specs.declared.Key.the-variants.{File, Open}
 use Rattle.meaning.specs.Keys.{holds}
-use Rattle.laws.specs.Order.{InBatch, Names, Apart, Batch3, Answered, paired, Ordered, Demand3}
+use Rattle.laws.specs.Order.{InBatch, Names, Apart, Batch3, Answered, every, paired, Ordered, Demand3}
 use Rattle.walks.specs.Lists.{All, Pairwise}
 use Rattle.walks.proofs.Alls.{all-perm, pairwise-perm}
 use Rattle.rules.proofs.Soundness.{sound, data-blocks}
 use Rattle.laws.proofs.Writes.{length-write}
+use Rattle.laws.proofs.Keeps.{found-every}
 use Rattle.laws.proofs.Deeds.{file-key, open-key}
-use Rattle.laws.proofs.Served.{plan, plan-found, serve-words, serve-kept}
+use Rattle.laws.proofs.Served.{plan, plan-every, serve-words, serve-kept}
 use Rattle.laws.proofs.Swap.{names-back, turned, answer-same, words-same}
 
 abbrev Kinds : List Request → Type 0
@@ -51,8 +52,8 @@ module _ (v : ℕ) (d : List ℕ) (h : fault v d ≡ 0) (p : Request) (in-p : In
   unnamed-after k [] a b = tt
   unnamed-after k (q ∷ qs) a b = ((λ n. b .0 (names-after q (a .0) k n)), unnamed-after k qs (a .1) (b .1))
 
-  found-after : (k : Key) → (Names d p k → ⊥) → find (holds k) (rows (serve v d p .words)) ≡ find (holds k) (rows d)
-  found-after k out = rw (serve-words v d p in-p h) (plan-found v d (sound v d h) p k out)
+  every-after : (k : Key) → (Names d p k → ⊥) → every (holds k) (rows (serve v d p .words)) ≡ every (holds k) (rows d)
+  every-after k out = rw (serve-words v d p in-p h) (plan-every v d (sound v d h) p k out)
 
   length-after : length (serve v d p .words) ≡ length d
   length-after = rw (serve-words v d p in-p h) (length-write (plan d p .writes) d)
@@ -70,14 +71,18 @@ module _ (v : ℕ) where
   batch-length (q ∷ qs) d h b =
       batch-length qs (serve v d q .words) (serve-kept v d q (b .0) h) (b .1) ∙ length-after v d h q (b .0)
 
-  batch-found : (qs : List Request) (d : List ℕ) → fault v d ≡ 0 → Kinds qs → Pairwise (Apart d) qs → (k : Key) → Unnamed d k qs
-      → find (holds k) (rows (wordsAfter v d qs)) ≡ find (holds k) (rows d)
+  batch-every : (qs : List Request) (d : List ℕ) → fault v d ≡ 0 → Kinds qs → Pairwise (Apart d) qs → (k : Key) → Unnamed d k qs
+      → every (holds k) (rows (wordsAfter v d qs)) ≡ every (holds k) (rows d)
   unfolding wordsAfter
-  batch-found [] d h b a k out = refl
-  batch-found (q ∷ qs) d h b a k out =
-      batch-found qs (serve v d q .words) (serve-kept v d q (b .0) h) (b .1) (pairwise-after v d h q (b .0) qs (a .0) (a .1)) k
+  batch-every [] d h b a k out = refl
+  batch-every (q ∷ qs) d h b a k out =
+      batch-every qs (serve v d q .words) (serve-kept v d q (b .0) h) (b .1) (pairwise-after v d h q (b .0) qs (a .0) (a .1)) k
       (unnamed-after v d h q (b .0) k qs (a .0) (out .1))
-      ∙ found-after v d h q (b .0) k (out .0)
+      ∙ every-after v d h q (b .0) k (out .0)
+
+  batch-found : (qs : List Request) (d : List ℕ) → fault v d ≡ 0 → Batch3 d qs → (k : Key) → Unnamed d k qs
+      → find (holds k) (rows (wordsAfter v d qs)) ≡ find (holds k) (rows d)
+  batch-found qs d h b k out = found-every (holds k) _ (rows d) (batch-every qs d h (b .kinds) (b .apart) k out)
 
   rest-batch : (d : List ℕ) → fault v d ≡ 0 → (q : Request) (qs : List Request) → Batch3 d (q ∷ qs)
       → Batch3 (serve v d q .words) qs
@@ -141,14 +146,11 @@ demand3 v d h =
             sound = batch-kept v qs d h (b .kinds);
             files =
                 λ n out.
-                file-key (wordsAfter v d qs) n
-                ∙ batch-found v qs d h (b .kinds) (b .apart) (File n) out
-                ∙ sym (file-key d n);
+                file-key (wordsAfter v d qs) n ∙ batch-found v qs d h b (File n) out ∙ sym (file-key d n);
+            every-file = λ n out. batch-every v qs d h (b .kinds) (b .apart) (File n) out;
             channels =
                 λ x out.
-                open-key (wordsAfter v d qs) x
-                ∙ batch-found v qs d h (b .kinds) (b .apart) (Open x) out
-                ∙ sym (open-key d x);
+                open-key (wordsAfter v d qs) x ∙ batch-found v qs d h b (Open x) out ∙ sym (open-key d x);
             lengths =
                 let t = data-blocks v (wordsAfter v d qs) (sound v _ (batch-kept v qs d h (b .kinds))) in
                 let e : segments (wordsAfter v d qs) ≡ segments d = rw (batch-length v qs d h (b .kinds)) in

@@ -19,16 +19,19 @@ use Rattle.meaning.specs.Requests.{legal, successWith, lookup, wordOf, entryOf}
 use Rattle.meaning.specs.Enter.{Size, exact, sizeOf, Area, wanted, entered, firstFit, enter}
 use Rattle.meaning.specs.declared.Key.{Key}
 use Rattle.meaning.specs.declared.Key.the-variants.{File, Open}
-use Rattle.meaning.specs.Keys.{keyOf, holds}
+use Rattle.meaning.specs.Keys.{keyOf, holds, fileBad}
 use Rattle.walks.specs.Lists.{All}
 use Rattle.laws.specs.Refusals.{beforeRoom}
+use Rattle.laws.specs.Kept.{BadStays}
+use Rattle.laws.specs.Order.{filesOf}
 use Rattle.laws.specs.Room.{SameFile, KeptByEnter}
 use Rattle.rules.proofs.Keys.{file≢open, IsOpen, open-holds, one-key, other-key}
 use Rattle.walks.proofs.Keyed.{has-key}
 use Rattle.laws.proofs.Refusals.{not-among}
 use Rattle.rules.proofs.Soundness.{Sound, sound, faultless}
 use Rattle.laws.proofs.Entries.{legal-short}
-use Rattle.laws.proofs.Living.{Live, livingOf, seek, face, found, Gained, gained-beside, gained-there}
+use Rattle.laws.proofs.Living.{Live, livingOf, seek, face, found, Gained, gained-beside, gained-there, gained-every}
+use Rattle.laws.proofs.Stays.{faces-stay, all-stay}
 use Rattle.laws.proofs.Way.{Used, chain-used}
 use Rattle.laws.proofs.TidiedSound.{Alike, tidied-is}
 use Rattle.laws.proofs.Areas.{chosen}
@@ -202,25 +205,40 @@ module _ (v : ℕ) (d : List ℕ) (h : fault v d ≡ 0) (name : Name) (asked : �
   keeps o (crowded s s′ q) = subst KeptHere (sym q) (refused-kept v d name (sizeOf asked) x date 12 h (λ e. omega arith))
   keeps o (taken p is-legal none-open s fit q) = subst KeptHere (sym q) (entered-keeps p is-legal none-open fit)
 
+  -- an enter leaves the words as they were, or those with the new entry: what holds of both holds of the words that it leaves
+  of-words : (P : List ℕ → Type 0) → P d
+      → ((p : Area) → legal name ≡ true → openOn d x ≡ none → firstFit n (eligiblesOf d) ≡ some p → P (entered t e n p))
+      → P (enter v d name asked job ch date .words)
+  unfolding refuse success
+  of-words P before after = go (enter v d name asked job ch date) (entering d name asked job ch date v h)
+    where
+      Holds : Outcome → Type 0
+      Holds o = P (o .words)
+
+      go : (o : Outcome) → Entering d name asked job ch date o → Holds o
+      go o (early m a q) = subst Holds (sym q) before
+      go o (short s q) = subst Holds (sym q) before
+      go o (crowded s s′ q) = subst Holds (sym q) before
+      go o (taken p is-legal none-open s fit q) = subst Holds (sym q) (after p is-legal none-open fit)
+
   -- every key but the new entry's channel finds the same first block and the same entry, in whatever slot it stands afterwards
-  abbrev pub FoundHere : Outcome → Type 0
-  FoundHere o =
+  abbrev pub FoundAsBefore : List ℕ → Type 0
+  FoundAsBefore after =
       (k : Key) → (k ≡ Open (wordOf job ch) → ⊥)
-      → Option·map face (find (holds k) (rows (o .words))) ≡ Option·map face (find (holds k) (rows d))
+      → Option·map face (find (holds k) (rows after)) ≡ Option·map face (find (holds k) (rows d))
 
-  refused-found : (m : ℕ) → FoundHere (refuse m d)
-  unfolding refuse
-  refused-found m k ne = refl
+  pub enter-found : FoundAsBefore (enter v d name asked job ch date .words)
+  enter-found = of-words FoundAsBefore (λ k ne. refl) found-same
 
-  finds : (o : Outcome) → Entering d name asked job ch date o → FoundHere o
-  unfolding success
-  finds o (early m a q) = subst FoundHere (sym q) (refused-found m)
-  finds o (short s q) = subst FoundHere (sym q) (refused-found 11)
-  finds o (crowded s s′ q) = subst FoundHere (sym q) (refused-found 12)
-  finds o (taken p is-legal none-open s fit q) = subst FoundHere (sym q) (found-same p is-legal none-open fit)
+  -- and every FILE.BAD stays
+  entered-stays : (p : Area) → legal name ≡ true → openOn d x ≡ none → firstFit n (eligiblesOf d) ≡ some p → BadStays d (entered t e n p)
+  entered-stays p is-legal none-open fit =
+      faces-stay (filesOf d fileBad) (filesOf (entered t e n p) fileBad)
+      (gained-every v d (entered t e n p) sd (en p is-legal none-open fit .sound) _ (gained p is-legal none-open fit) (File fileBad)
+      (new-other (slotWords d) name n x date (File fileBad) (file≢open fileBad x)))
 
-  pub enter-found : FoundHere (enter v d name asked job ch date)
-  enter-found = finds (enter v d name asked job ch date) (entering d name asked job ch date v h)
+  pub enter-stays : BadStays d (enter v d name asked job ch date .words)
+  enter-stays = of-words (BadStays d) (all-stay (filesOf d fileBad)) entered-stays
 
   pub enter-kept : KeptByEnter v d name (sizeOf asked) (wordOf job ch) date (enter v d name asked job ch date)
   enter-kept = keeps (enter v d name asked job ch date) (entering d name asked job ch date v h)

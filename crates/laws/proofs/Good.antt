@@ -53,6 +53,7 @@ pub record Made (d : List ℕ) (r : Row) (k l : Key) (n : ℕ) (ws : List Write)
   pub good : Good d (Two k l) ws
   pub gone : All (After d (write d ws) k nothing) (rows d)
   pub made : once l ≡ true → All (After d (write d ws) l (holds k)) (rows d)
+  pub key : holds l (entryAt (write d ws) (slotWords d) (r .at)) ≡ true
   pub length : blocks (entryAt (write d ws) (slotWords d) (r .at)) ≡ n
   pub date : dateOf (entryAt (write d ws) (slotWords d) (r .at)) ≡ dateOf (r .entry)
 

@@ -1,9 +1,9 @@
 -- A change that keeps the shape keeps a directory sound, if each key that may stand once comes afterwards from one such key at most: it
 -- is found where that was, with the entry read anew and the first block unchanged. A key that the change does not name is found as
--- before, row for row.
+-- before, and all its rows are the same.
 use Prim.Native.Nat.{ℕ, _-_, _≤_}
-use mathlib.Core.Path.{_≡_, refl, sym, _∙_, subst}
-use mathlib.Core.Bool.{Bool, true, false, false≢true}
+use mathlib.Core.Path.{_≡_, refl, sym, ap, _∙_, subst}
+use mathlib.Core.Bool.{Bool, true, false, cond}
 use mathlib.Core.List.{List, [], _∷_, map}
 use mathlib.Core.Option.{Option, none, some, Option·map}
 use native.Mathlib.Omega.{arith}
@@ -12,6 +12,7 @@ use Rattle.meaning.specs.Words.{slotWords, Entry, chain, Row, rows, allEntries}
 use Rattle.meaning.specs.Answers.{find}
 use Rattle.meaning.specs.declared.Key.{Key}
 use Rattle.meaning.specs.Keys.{holds, once}
+use Rattle.laws.specs.Order.{every}
 use Rattle.walks.specs.Lists.{All}
 use Rattle.walks.proofs.Alls.{all-map}
 use Rattle.rules.proofs.Keys.{one-key, empty-holds, count}
@@ -45,16 +46,12 @@ not-of C k l e out c h = never (holds k e) (λ g. out (subst C (one-key l k e h 
 beside : {C : Key → Type 0} {x : ℕ} {e e′ : Entry} (k : Key) → (C k → ⊥) → Touch C x e e′ → Beside k x e e′
 beside k out (keep h z) = equal h z
 beside {e = e} {e′ = e′} k out (area h g) = neither (empty-holds k e h) (empty-holds k e′ g)
-beside {C} {e = e} {e′ = e′} k out (gone l c h g z) = neither (not-of C k l e out c h) (empty-holds k e′ g)
-beside {C} {e = e} {e′ = e′} k out (made l m c h c′ h′ g b z) = neither (not-of C k l e out c h) (not-of C k m e′ out c′ h′)
+beside {C} {e = e} {e′ = e′} k out (gone l c o h g z) = neither (not-of C k l e out c h) (empty-holds k e′ g)
+beside {C} {e = e} {e′ = e′} k out (made l m c o h c′ h′ g b z) = neither (not-of C k l e out c h) (not-of C k m e′ out c′ h′)
 
 beside-holds : {k : Key} {x : ℕ} {e e′ : Entry} → Beside k x e e′ → holds k e′ ≡ holds k e
 beside-holds (equal h z) = rw h
 beside-holds (neither g g′) = rw (g, g′)
-
-beside-held : {k : Key} {x : ℕ} {e e′ : Entry} → Beside k x e e′ → holds k e ≡ true → e′ ≡ e
-beside-held (equal h z) t = h
-beside-held (neither g g′) t = absurd (false≢true (sym g ∙ t))
 
 count-nothing : (es : List Entry) → count nothing es ≡ 0
 unfolding count
@@ -65,6 +62,23 @@ find-nothing : (rs : List Row) → find nothing rs ≡ none
 unfolding find
 find-nothing [] = refl
 find-nothing (r ∷ rs) = find-nothing rs
+
+-- what is found is the first of all rows that pass the test
+first : List Row → Option Row
+first [] = none
+first (r ∷ rs) = some r
+
+find-first : (p : Entry → Bool) (rs : List Row) → find p rs ≡ first (every p rs)
+unfolding find every first
+find-first p [] = refl
+find-first p (r ∷ rs) = go (p (r .entry)) (find-first p rs)
+  where
+    go : (x : Bool) → find p rs ≡ first (every p rs) → cond x (some r) (find p rs) ≡ first (cond x (r ∷ every p rs) (every p rs))
+    go true i = refl
+    go false i = i
+
+pub found-every : (p : Entry → Bool) (rs rs′ : List Row) → every p rs ≡ every p rs′ → find p rs ≡ find p rs′
+found-every p rs rs′ e = find-first p rs ∙ ap first e ∙ sym (find-first p rs′)
 
 -- a row with its entry read anew
 abbrev pub reread : List ℕ → List ℕ → Row → Row
@@ -121,13 +135,27 @@ module _ (v : ℕ) (C : Key → Type 0) (δ : ℕ → ℕ) (d d′ : List ℕ) (
   found-nowhere k a =
       rw (rows-moved C δ d d′ m, find-tied (holds k) nothing (shifted δ f′) (rows d) a, find-nothing (rows d))
 
-  reread-same : (k : Key) → (C k → ⊥) → (o : Option Row) → find (holds k) (rows d) ≡ o → Option·map (reread d d′) o ≡ o
-  reread-same k out none e = refl
-  reread-same k out (some r) e =
-      let x = find-some (Stand d) (holds k) (rows d) r (standing v d s) e in
-      let y = beside-held (beside k out (m .at (r .at) (x .0 .slot .on) .touch)) (rw (x .0 .is) at (x .1)) in
-      let z : entryAt d′ (slotWords d) (r .at) ≡ r .entry = y ∙ sym (x .0 .is) in
-      rw z
+  -- all rows of a key that is not of C are the same, and so is the first
+  every-from : (k : Key) → (C k → ⊥) → (rs : List Row) → All (Stand d) rs → every (holds k) (map (shifted δ f′) rs) ≡ every (holds k) rs
+  unfolding every
+  every-from k out [] a = refl
+  every-from k out (r ∷ rs) a = go (beside k out t) (every-from k out rs (a .1))
+    where
+      t : Touch C (δ (r .at)) (entryAt d (slotWords d) (r .at)) (f′ (r .at))
+      t = m .at (r .at) (a .0 .slot .on) .touch
+
+      go : Beside k (δ (r .at)) (entryAt d (slotWords d) (r .at)) (f′ (r .at))
+          → every (holds k) (map (shifted δ f′) rs) ≡ every (holds k) rs
+          → cond (holds k (f′ (r .at))) (shifted δ f′ r ∷ every (holds k) (map (shifted δ f′) rs)) (every (holds k) (map (shifted δ f′) rs))
+          ≡ cond (holds k (r .entry)) (r ∷ every (holds k) rs) (every (holds k) rs)
+      go (equal h z) i =
+          let q : f′ (r .at) ≡ r .entry = h ∙ sym (a .0 .is) in
+          let y : r .first - δ (r .at) ≡ r .first = omega arith in
+          rw (i, q, y)
+      go (neither g g′) i = let n : holds k (r .entry) ≡ false = rw (a .0 .is) g in rw (i, g′, n)
+
+  pub every-other : (k : Key) → (C k → ⊥) → every (holds k) (rows d′) ≡ every (holds k) (rows d)
+  every-other k out = rw (rows-moved C δ d d′ m) (every-from k out (rows d) (standing v d s))
 
   pub found-other : (k : Key) → (C k → ⊥) → find (holds k) (rows d′) ≡ find (holds k) (rows d)
-  found-other k out = found-from k k (still-after k out) ∙ reread-same k out (find (holds k) (rows d)) refl
+  found-other k out = found-every (holds k) (rows d′) (rows d) (every-other k out)

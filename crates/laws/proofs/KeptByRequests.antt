@@ -9,19 +9,21 @@ use mathlib.Core.List.{List}
 use mathlib.Core.Option.{Option, none, some}
 use lib.IntN.{ℤ}
 use Rattle.meaning.specs.declared.Name.{Name}
-use Rattle.meaning.specs.Words.{nameOf, Row}
+use Rattle.meaning.specs.Words.{nameOf, Row, rows}
+use Rattle.meaning.specs.Keys.{fileBad}
 use Rattle.meaning.specs.Sound.{fault}
 use Rattle.meaning.specs.Answers.{openOn}
-use Rattle.meaning.specs.Requests.{legal, lookup, rename, close, finalLength, goodChannel, wordOf}
+use Rattle.meaning.specs.Requests.{legal, lookup, rename, close, closing, finalLength, goodChannel, wordOf}
 use Rattle.meaning.specs.declared.Key.the-variants.{File, Open}
-use Rattle.laws.specs.Kept.{KeptByDelete, KeptByAbandon, KeptByRename, KeptByClose}
-use Rattle.rules.proofs.Keys.{once-file, file≢open}
+use Rattle.laws.specs.Kept.{KeptByDelete, KeptByAbandon, KeptByRename, FilePresent, KeptByClose}
+use Rattle.rules.proofs.Keys.{once-other, file≢open}
 use Rattle.rules.proofs.Soundness.{sound}
-use Rattle.laws.proofs.Good.{Good, Two}
+use Rattle.laws.proofs.Good.{Good, Two, Made}
 use Rattle.laws.proofs.Plans.{Plan, deletePlan, renamePlan, closePlan, delete-is, abandon-is, rename-is, close-is}
 use Rattle.laws.proofs.Deeds.{file-key, open-key, file-gone, file-made, rename-made, openAt, CloseNames, AbandonNames}
 use Rattle.laws.proofs.Deeds.{Refused, delete-view, RenameDone, rename-view, CloseDone, close-view}
 use Rattle.laws.proofs.Deeds.{delete-good, abandon-good, rename-good, close-good}
+use Rattle.laws.proofs.Stays.{made-present}
 use Rattle.laws.proofs.Lookups.{good-sound, others-seen, gone-seen, made-seen, lookup-seen}
 
 -- a plan of number 0 is no refusal
@@ -94,10 +96,14 @@ module _ (v : ℕ) (d : List ℕ) (h : fault v d ≡ 0) where
   kept-by-close job ch final =
       record {
         sound = rw (close-is v d h job ch final) (good-sound v d h _ _ good);
-        made =
-            λ r e z l.
+        present =
+            λ r e z.
             let x = done z in
-            subst MadeOf (same-row (x .row) r (x .old) e) (made-of x) l;
+            subst PresentOf (same-row (x .row) r (x .old) e) (present-of x);
+        made =
+            λ r e z l b.
+            let x = done z in
+            subst MadeOf (same-row (x .row) r (x .old) e) (made-of x) l b;
         others =
             λ r e n ne.
             rw (close-is v d h job ch final) (others-seen v d h _ _ good n (λ k. ne (of-row r e n (goodChannel job ch) k)));
@@ -111,18 +117,30 @@ module _ (v : ℕ) (d : List ℕ) (h : fault v d ≡ 0) where
           succeeds (closePlan d job ch (finalLength final)) (rw (close-is v d h job ch final) at z)
           (close-view d job ch (finalLength final))
 
+      PresentOf : Row → Type 0
+      PresentOf r = FilePresent (rows (close v d job ch final .words)) (nameOf (r .entry)) (close v d job ch final .answer)
+
+      file-of : (x : CloseDone d job ch (finalLength final))
+          → Made d (x .row) (Open (wordOf job ch)) (File (nameOf (x .row .entry))) (x .n) (closing d (x .row) (x .n))
+      file-of x = file-made v d (sound v d h) (wordOf job ch) (x .row) (x .old) (x .n) (x .least)
+
+      present-of : (x : CloseDone d job ch (finalLength final)) → PresentOf (x .row)
+      present-of x =
+          rw (close-is v d h job ch final, x .plan)
+          (made-present v d h (x .row) (Open (wordOf job ch)) (nameOf (x .row .entry)) (x .n) _ (file-of x)
+          (sym (open-key d (wordOf job ch)) ∙ x .old))
+
       MadeOf : Row → Type 0
       MadeOf r =
-          legal (nameOf (r .entry)) ≡ true
+          legal (nameOf (r .entry)) ≡ true → (nameOf (r .entry) ≡ fileBad → ⊥)
           → lookup v (close v d job ch final .words) (nameOf (r .entry)) .answer ≡ close v d job ch final .answer
 
       made-of : (x : CloseDone d job ch (finalLength final)) → MadeOf (x .row)
-      made-of x l =
+      made-of x l b =
           rw (close-is v d h job ch final, x .plan)
-          (made-seen v d h (x .row) (Open (wordOf job ch)) (nameOf (x .row .entry)) (x .n) _
-          (file-made v d (sound v d h) (wordOf job ch) (x .row) (x .old) (x .n) (x .least))
+          (made-seen v d h (x .row) (Open (wordOf job ch)) (nameOf (x .row .entry)) (x .n) _ (file-of x)
           (sym (open-key d (wordOf job ch)) ∙ x .old)
-          (once-file (nameOf (x .row .entry)))
+          (once-other (nameOf (x .row .entry)) b)
           l)
 
       same-row : (r r′ : Row) → openOn d (wordOf job ch) ≡ some r → openOn d (wordOf job ch) ≡ some r′ → r ≡ r′

@@ -8,6 +8,8 @@ pub mod OneEntry
 pub mod Closing
 pub mod Plans
 pub mod Deeds
+pub mod Living
+pub mod Stays
 pub mod Served
 pub mod Swap
 pub mod Demand3
@@ -17,7 +19,6 @@ pub mod KeptByRequests
 pub mod KeptByFresh
 pub mod Kept
 pub mod Rendered
-pub mod Living
 pub mod Way
 pub mod Anew
 pub mod Rewritten

@@ -1,6 +1,7 @@
 -- What is found in a directory, by first block and entry alone. The living entries are those that are not empty, each with its first
 -- block; a key finds among the rows of a sound directory what it finds among the living. So where these stay, all is found as before;
--- and where one is added to them, every key that it does not have is found as before, and its own key, if nothing had it, finds it.
+-- and where one is added to them, every key that it does not have is found as before, its own key, if nothing had it, finds it, and of
+-- every other key all are as before.
 use Prim.Native.Nat.{ℕ, _+_, _≤_}
 use mathlib.Core.Path.{_≡_, refl, sym, ap, ap₂, _∙_}
 use mathlib.Core.Bool.{Bool, true, false, cond}
@@ -18,6 +19,7 @@ use Rattle.meaning.specs.Answers.{find}
 use Rattle.meaning.specs.Enter.{isArea}
 use Rattle.meaning.specs.declared.Key.{Key}
 use Rattle.meaning.specs.Keys.{holds}
+use Rattle.laws.specs.Order.{every}
 use Rattle.rules.proofs.Keys.{empty-holds, count}
 use Rattle.rules.proofs.Soundness.{Sound}
 use Rattle.walks.proofs.Told.{empty-kind}
@@ -197,3 +199,44 @@ module _ {x : Live} {xs ys : List Live} (g : Gained x xs ys) (t : Entry → Bool
       go : (z : Bool) → t (x .entry) ≡ z → counted t ys ≤ 1
       go true z = let n = none-counted t xs (free z) in let m : counted t ys ≡ counted t xs + 1 = more ∙ (rw z) in omega arith
       go false z = let m : counted t ys ≡ counted t xs + 0 = more ∙ (rw z) in omega arith
+
+-- all of the living that pass a test
+unfoldable chosen : (Entry → Bool) → List Live → List Live
+chosen t [] = []
+chosen t (x ∷ xs) = let r = chosen t xs in cond (t (x .entry)) (x ∷ r) r
+
+chosen-beside : (t : Entry → Bool) (x : Live) (xs ys : List Live) → t (x .entry) ≡ false → chosen t (xs ++ x ∷ ys) ≡ chosen t (xs ++ ys)
+unfolding chosen
+chosen-beside t x [] ys h = rw h
+chosen-beside t x (y ∷ xs) ys h = rw (chosen-beside t x xs ys h)
+
+-- those of a key are its rows
+chosen-rows : (k : Key) (rs : List Row) → map face (every (holds k) rs) ≡ chosen (holds k) (livingRows rs)
+unfolding every chosen livingRows
+chosen-rows k [] = refl
+chosen-rows k (r ∷ rs) = go (isArea (r .entry)) refl (chosen-rows k rs)
+  where
+    test : (z : Bool) → map face (every (holds k) rs) ≡ chosen (holds k) (livingRows rs)
+        → map face (cond z (r ∷ every (holds k) rs) (every (holds k) rs))
+        ≡ cond z (face r ∷ chosen (holds k) (livingRows rs)) (chosen (holds k) (livingRows rs))
+    test true i = ap {B = List Live} (λ l. face r ∷ l) i
+    test false i = i
+
+    go : (z : Bool) → isArea (r .entry) ≡ z → map face (every (holds k) rs) ≡ chosen (holds k) (livingRows rs)
+        → map face (cond (holds k (r .entry)) (r ∷ every (holds k) rs) (every (holds k) rs))
+        ≡ chosen (holds k) (cond z (livingRows rs) (face r ∷ livingRows rs))
+    go true z i = rw (empty-holds k (r .entry) (empty-kind (kind (r .entry)) z)) i
+    go false z i = test (holds k (r .entry)) i
+
+-- so all rows of a key are as before once another is added, but for the slots that they stand in
+pub gained-every : (v : ℕ) (d d′ : List ℕ) → Sound v d → Sound v d′ → (x : Live) → Gained x (livingOf d) (livingOf d′)
+    → (k : Key) → holds k (x .entry) ≡ false → map face (every (holds k) (rows d)) ≡ map face (every (holds k) (rows d′))
+unfolding rows allEntries
+gained-every v d d′ s s′ x g k h =
+    let i = rows-from v d (firstData d) (chain d) (s .full) ∙ g .was in
+    let j = rows-from v d′ (firstData d′) (chain d′) (s′ .full) ∙ g .is in
+    chosen-rows k (rowsOf d (chain d))
+    ∙ ap (chosen (holds k)) i
+    ∙ sym (chosen-beside (holds k) x (g .front) (g .back) h)
+    ∙ ap (chosen (holds k)) (sym j)
+    ∙ sym (chosen-rows k (rowsOf d′ (chain d′)))

@@ -101,15 +101,15 @@ module _ (d : List ℕ) (st : All (Stand d) (rows d)) where
         touched p (no q) = rw (away p q) (keep refl refl, refl)
 
   -- delete and abandon
-  pub clearing : (r : Row) → Stand d r → (k : Key) → holds k (r .entry) ≡ true → All (Only (holds k) (r .at)) (rows d)
+  pub clearing : (r : Row) → Stand d r → (k : Key) → once k ≡ true → holds k (r .entry) ≡ true → All (Only (holds k) (r .at)) (rows d)
       → Gone d k (emptying r)
   unfolding emptying
-  clearing r s k h only =
+  clearing r s k one h only =
       let g = key-gone r s k h only ws to within e refl (empty-holds k e (x .kind)) in
       record {
         good =
             one-good r s k h only ws to within e refl (One k) refl
-            (gone k refl (key-at r s k h only ws to within e refl) (x .kind) refl)
+            (gone k refl one (key-at r s k h only ws to within e refl) (x .kind) refl)
             (x .blocks)
             (gone-source d (write d ws) k g);
         gone = g;
@@ -142,12 +142,13 @@ module _ (d : List ℕ) (st : All (Stand d) (rows d)) where
       record {
         good =
             one-good r s k h only ws to within e refl (Two k l) (inl refl)
-            (made k l (inl refl) (key-at r s k h only ws to within e refl) (inr refl) has (x .permanent) (file-short new e x fine)
+            (made k l (inl refl) one (key-at r s k h only ws to within e refl) (inr refl) has (x .permanent) (file-short new e x fine)
             refl)
             (y .blocks)
             (made-source d (write d ws) k l one g (λ _. m));
         gone = g;
         made = λ _. m;
+        key = ap (holds l) i ∙ has;
         length = ap blocks i ∙ y .blocks ∙ ap blocks (sym (s .is));
         date = ap dateOf i ∙ y .date ∙ ap dateOf (sym (s .is));
       }

@@ -2,7 +2,7 @@
 -- finds. Each line of the request becomes a line of its plan, so the request is its plan carried out.
 use Prim.Native.Nat.{ℕ}
 use mathlib.Core.Path.{_≡_, refl}
-use mathlib.Core.Bool.{Bool, true, false, _&&_}
+use mathlib.Core.Bool.{Bool, true, false, _&&_, _||_, not}
 use mathlib.Core.List.{List, []}
 use mathlib.Core.Option.{Option, none, some}
 use lib.IntN.{ℤ}
@@ -10,6 +10,7 @@ use lib.Dec.{leb}
 use Rattle.meaning.specs.declared.Name.{Name}
 use Rattle.meaning.specs.declared.Answer.{Answer}
 use Rattle.meaning.specs.Words.{blocks, dateOf, Row}
+use Rattle.meaning.specs.Keys.{spared}
 use Rattle.meaning.specs.Sound.{fault}
 use Rattle.meaning.specs.Answers.{Outcome, refusal, granted, refuse, success, unless, onRow, isNone, fileOf, openOn, Write, write}
 use Rattle.meaning.specs.Requests.{legal, successWith, emptying, delete, goodChannel, wordOf, abandon, renaming, rename, closing}
@@ -38,7 +39,9 @@ finding n none p = refused n
 finding n (some r) p = p r
 
 unfoldable pub deletePlan : List ℕ → Name → Plan
-deletePlan d name = testing 7 (legal name) (finding 13 (fileOf d name) (λ r. done r (blocks (r .entry)) (emptying r)))
+deletePlan d name =
+    testing 7 (legal name)
+    (testing 19 (not (spared name)) (finding 13 (fileOf d name) (λ r. done r (blocks (r .entry)) (emptying r))))
 
 unfoldable pub abandonPlan : List ℕ → ℕ → ℕ → Plan
 abandonPlan d job ch =
@@ -47,7 +50,8 @@ abandonPlan d job ch =
 unfoldable pub renamePlan : List ℕ → Name → Name → Plan
 renamePlan d old new =
     testing 7 (legal old && legal new)
-    (finding 13 (fileOf d old) (λ r. testing 14 (isNone (fileOf d new)) (done r (blocks (r .entry)) (renaming r new))))
+    (testing 19 (not (spared old || spared new))
+    (finding 13 (fileOf d old) (λ r. testing 14 (isNone (fileOf d new)) (done r (blocks (r .entry)) (renaming r new)))))
 
 abbrev pub closedPlan : List ℕ → Row → Option ℕ → Plan
 closedPlan d r none = refused 16
@@ -81,7 +85,8 @@ module _ (v : ℕ) (d : List ℕ) (h : fault v d ≡ 0) where
   delete-is name =
       rw h
       (testing-is d 7 (legal name) _ _
-      (finding-is d 13 (fileOf d name) _ (λ r. done r (blocks (r .entry)) (emptying r)) (λ r. success-is d r (emptying r))))
+      (testing-is d 19 (not (spared name)) _ _
+      (finding-is d 13 (fileOf d name) _ (λ r. done r (blocks (r .entry)) (emptying r)) (λ r. success-is d r (emptying r)))))
 
   pub abandon-is : (job ch : ℕ) → abandon v d job ch ≡ carried d (abandonPlan d job ch)
   unfolding abandon abandonPlan
@@ -96,8 +101,9 @@ module _ (v : ℕ) (d : List ℕ) (h : fault v d ≡ 0) where
   rename-is old new =
       rw h
       (testing-is d 7 (legal old && legal new) _ _
+      (testing-is d 19 (not (spared old || spared new)) _ _
       (finding-is d 13 (fileOf d old) _ (λ r. testing 14 (isNone (fileOf d new)) (done r (blocks (r .entry)) (renaming r new)))
-      (λ r. testing-is d 14 (isNone (fileOf d new)) _ _ (success-is d r (renaming r new)))))
+      (λ r. testing-is d 14 (isNone (fileOf d new)) _ _ (success-is d r (renaming r new))))))
 
   closed-is : (r : Row) (n : Option ℕ) → closed d r n ≡ carried d (closedPlan d r n)
   unfolding success

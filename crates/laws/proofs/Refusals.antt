@@ -18,9 +18,10 @@ use Rattle.meaning.specs.declared.Request.{Request}
 use Rattle.meaning.specs.declared.Name.{Name}
 use Rattle.meaning.specs.Kinds.{tentativeStatus}
 use Rattle.meaning.specs.Words.{Row, Entry, blocks, slotWords, chain}
+use Rattle.meaning.specs.Keys.{spared}
 use Rattle.meaning.specs.Sound.{bad1, bad2, bad3, bad4, bad5, bad6, rule, fault}
-use Rattle.meaning.specs.Answers.{Outcome, refuse, success, passed, ifSound, unless, onRow, isNone, fileOf, openOn, write}
-use Rattle.meaning.specs.Requests.{legal, successWith, lookup, delete, emptying, goodChannel, wordOf, abandon, rename, finalLength, closed}
+use Rattle.meaning.specs.Answers.{Outcome, refuse, success, passed, ifSound, unless, onRow, isNone, fileOf, openOn}
+use Rattle.meaning.specs.Requests.{legal, successWith, lookup, delete, goodChannel, wordOf, abandon, rename, finalLength, closed}
 use Rattle.meaning.specs.Requests.{close, entryOf, fresh}
 use Rattle.meaning.specs.Enter.{Area, goodSize, sizeOf, tidied, areas, eligibles, wanted, atLeast, longEnough, firstFit, placed, enter}
 use Rattle.meaning.specs.Batch.{serveBy, serve}
@@ -93,16 +94,22 @@ sound-settled v d ns next s =
     s
 
 module _ (v : ℕ) (d : List ℕ) where
-  -- lookup and delete: they differ in the words after
-  named-settled : (name : Name) (after : Row → List ℕ)
-      → Settled (faults ++ 7 ∷ 13 ∷ []) d
-      (ifSound v d λ _. unless 7 (legal name) d λ _. onRow 13 (fileOf d name) d λ r. successWith r (after r))
-  unfolding successWith
-  named-settled name after =
-      let ns = faults ++ 7 ∷ 13 ∷ [] in
-      sound-settled v d (7 ∷ 13 ∷ []) _
+  lookup-settled : (name : Name) → Settled (faults ++ asked Lookup) d (lookup v d name)
+  unfolding lookup successWith
+  lookup-settled name =
+      let ns = faults ++ asked Lookup in
+      sound-settled v d (asked Lookup) _
       (unless-settled ns d 7 (legal name) _ (among 7 ns refl)
       (row-settled ns d 13 (fileOf d name) _ (among 13 ns refl) (λ r. success-settled ns d _ _ _ _)))
+
+  delete-settled : (name : Name) → Settled (faults ++ asked Delete) d (delete v d name)
+  unfolding delete successWith
+  delete-settled name =
+      let ns = faults ++ asked Delete in
+      sound-settled v d (asked Delete) _
+      (unless-settled ns d 7 (legal name) _ (among 7 ns refl)
+      (unless-settled ns d 19 (not (spared name)) _ (among 19 ns refl)
+      (row-settled ns d 13 (fileOf d name) _ (among 13 ns refl) (λ r. success-settled ns d _ _ _ _))))
 
   abandon-settled : (job channel : ℕ) → Settled (faults ++ asked Abandon) d (abandon v d job channel)
   unfolding abandon successWith
@@ -118,8 +125,9 @@ module _ (v : ℕ) (d : List ℕ) where
       let ns = faults ++ asked Rename in
       sound-settled v d (asked Rename) _
       (unless-settled ns d 7 (legal old && legal new) _ (among 7 ns refl)
+      (unless-settled ns d 19 (not (spared old || spared new)) _ (among 19 ns refl)
       (row-settled ns d 13 (fileOf d old) _ (among 13 ns refl)
-      (λ r. unless-settled ns d 14 (isNone (fileOf d new)) _ (among 14 ns refl) (success-settled ns d _ _ _ _))))
+      (λ r. unless-settled ns d 14 (isNone (fileOf d new)) _ (among 14 ns refl) (success-settled ns d _ _ _ _)))))
 
   closed-settled : (r : Row) (n : Option ℕ) → Settled (faults ++ asked Close) d (closed d r n)
   closed-settled r none = let ns = faults ++ asked Close in refuse-settled ns d 16 (among 16 ns refl)
@@ -139,19 +147,18 @@ module _ (v : ℕ) (d : List ℕ) where
   placed-settled t n date new none = let ns = faults ++ asked Enter in refuse-settled ns d 12 (among 12 ns refl)
   placed-settled t n date new (some a) = success-settled (faults ++ asked Enter) d _ _ _ _
 
-  -- enter's own six refusals, whatever they test
-  six-settled : (a b c e f g : Bool) (o : Outcome) → Settled (faults ++ asked Enter) d o
+  -- enter's own seven refusals, whatever they test
+  seven-settled : (a b c e f g h : Bool) (o : Outcome) → Settled (faults ++ asked Enter) d o
       → Settled (faults ++ asked Enter) d
-      (unless 7 a d λ _. unless 8 b d λ _. unless 9 c d λ _. unless 10 e d λ _. unless 11 f d λ _. unless 12 g d λ _. o)
-  six-settled a b c e f g o s =
+      (unless 7 a d λ _. unless 19 b d λ _. unless 8 c d λ _. unless 9 e d λ _. unless 10 f d λ _. unless 11 g d λ _. unless 12 h d λ _. o)
+  seven-settled a b c e f g h o s =
       let ns = faults ++ asked Enter in
-      unless-settled ns d 7 a (λ _. unless 8 b d λ _. unless 9 c d λ _. unless 10 e d λ _. unless 11 f d λ _. unless 12 g d λ _. o)
-      (among 7 ns refl)
-      (unless-settled ns d 8 b (λ _. unless 9 c d λ _. unless 10 e d λ _. unless 11 f d λ _. unless 12 g d λ _. o) (among 8 ns refl)
-      (unless-settled ns d 9 c (λ _. unless 10 e d λ _. unless 11 f d λ _. unless 12 g d λ _. o) (among 9 ns refl)
-      (unless-settled ns d 10 e (λ _. unless 11 f d λ _. unless 12 g d λ _. o) (among 10 ns refl)
-      (unless-settled ns d 11 f (λ _. unless 12 g d λ _. o) (among 11 ns refl)
-      (unless-settled ns d 12 g (λ _. o) (among 12 ns refl) s)))))
+      unless-settled ns d 7 a _ (among 7 ns refl)
+      (unless-settled ns d 19 b _ (among 19 ns refl)
+      (unless-settled ns d 8 c _ (among 8 ns refl)
+      (unless-settled ns d 9 e _ (among 9 ns refl)
+      (unless-settled ns d 10 f _ (among 10 ns refl)
+      (unless-settled ns d 11 g _ (among 11 ns refl) (unless-settled ns d 12 h (λ _. o) (among 12 ns refl) s))))))
 
   enter-settled : (name : Name) (asked-size : ℤ) (job channel date : ℕ)
       → Settled (faults ++ asked Enter) d (enter v d name asked-size job channel date)
@@ -166,19 +173,18 @@ module _ (v : ℕ) (d : List ℕ) where
       let new = entryOf (slotWords d) tentativeStatus name n x date in
       let o = placed d t n date new (firstFit n fit) in
       sound-settled v d (asked Enter) _
-      (six-settled (legal name) (goodChannel job channel) (goodSize size && goodDate date) (isNone (openOn d x))
+      (seven-settled (legal name) (not (spared name)) (goodChannel job channel) (goodSize size && goodDate date) (isNone (openOn d x))
       (longEnough (atLeast size) all)
       (longEnough (atLeast size) fit)
       o
       (placed-settled t n date new (firstFit n fit)))
 
   serve-settled : (op : Op) (q : Request) → Settled (faults ++ asked op) d (serveBy op v d q)
-  unfolding lookup delete
-  serve-settled Lookup q = named-settled (q .name) (λ r. d)
+  serve-settled Lookup q = lookup-settled _
   serve-settled Enter q = enter-settled _ _ _ _ _
   serve-settled Close q = close-settled _ _ _
   serve-settled Abandon q = abandon-settled _ _
-  serve-settled Delete q = named-settled (q .name) (λ r. write d (emptying r))
+  serve-settled Delete q = delete-settled _
   serve-settled Rename q = rename-settled _ _
 
   start-settled : (extra : ℕ) → Settled (1 ∷ 2 ∷ []) d (fresh v d extra)

@@ -1,5 +1,5 @@
 -- Each request of demand 3's batch, by its plan: it is the plan carried out, its writes are good for the keys that it names, so
--- it leaves a sound directory sound, and a key that it does not name is found as before.
+-- it leaves a sound directory sound, and all rows of a key that it does not name are as before.
 use Prim.Native.Nat.{ℕ}
 use mathlib.Core.Path.{_≡_, ap}
 use mathlib.Core.List.{List}
@@ -13,11 +13,13 @@ use Rattle.meaning.specs.Requests.{finalLength}
 use Rattle.meaning.specs.Batch.{serveBy, serve}
 use Rattle.meaning.specs.declared.Key.{Key}
 use Rattle.meaning.specs.Keys.{holds}
-use Rattle.laws.specs.Order.{InBatch, openFor, NamesBy, Names}
+use Rattle.laws.specs.Kept.{BadStays}
+use Rattle.laws.specs.Order.{InBatch, openFor, NamesBy, Names, every}
 use Rattle.rules.proofs.Soundness.{Sound, sound, faultless}
 use Rattle.rules.proofs.Rows.{standing}
-use Rattle.laws.proofs.Keeps.{stays-sound, found-other}
+use Rattle.laws.proofs.Keeps.{stays-sound, found-every, every-other}
 use Rattle.laws.proofs.Good.{Good, nothing-good}
+use Rattle.laws.proofs.Stays.{stays}
 use Rattle.laws.proofs.Plans.{Plan, carried, refused, deletePlan, abandonPlan, renamePlan, closePlan}
 use Rattle.laws.proofs.Plans.{delete-is, abandon-is, rename-is, close-is}
 use Rattle.laws.proofs.Deeds.{delete-good, abandon-good, rename-good, close-good}
@@ -64,11 +66,15 @@ module _ (v : ℕ) (d : List ℕ) (s : Sound v d) where
   pub plan-kept : (q : Request) → Sound v (write d (plan d q .writes))
   plan-kept q = let g = plan-good q in stays-sound v (Names d q) (g .fall) d (write d (plan d q .writes)) s (g .move) (g .sources)
 
+  pub plan-every : (q : Request) (k : Key) → (Names d q k → ⊥)
+      → every (holds k) (rows (write d (plan d q .writes))) ≡ every (holds k) (rows d)
+  plan-every q k out =
+      let g = plan-good q in
+      every-other v (Names d q) (g .fall) d (write d (plan d q .writes)) s (g .move) k out
+
   pub plan-found : (q : Request) (k : Key) → (Names d q k → ⊥)
       → find (holds k) (rows (write d (plan d q .writes))) ≡ find (holds k) (rows d)
-  plan-found q k out =
-      let g = plan-good q in
-      found-other v (Names d q) (g .fall) d (write d (plan d q .writes)) s (g .move) k out
+  plan-found q k out = found-every (holds k) _ (rows d) (plan-every q k out)
 
 pub serve-words : (v : ℕ) (d : List ℕ) (q : Request) → InBatch (q .op) → fault v d ≡ 0
     → serve v d q .words ≡ write d (plan d q .writes)
@@ -76,3 +82,9 @@ serve-words v d q b h = ap (λ (o : Outcome). o .words) (served v d q b h)
 
 pub serve-kept : (v : ℕ) (d : List ℕ) (q : Request) → InBatch (q .op) → fault v d ≡ 0 → fault v (serve v d q .words) ≡ 0
 serve-kept v d q b h = rw (serve-words v d q b h) (faultless v _ (plan-kept v d (sound v d h) q))
+
+-- and keeps every FILE.BAD
+pub plan-stays : (v : ℕ) (d : List ℕ) → fault v d ≡ 0 → (q : Request) → InBatch (q .op) → BadStays d (serve v d q .words)
+plan-stays v d h q b =
+    let g = plan-good v d (sound v d h) q in
+    rw (serve-words v d q b h) (stays v (Names d q) (g .fall) d (write d (plan d q .writes)) (sound v d h) (g .move))

@@ -16,7 +16,7 @@ use Rattle.meaning.specs.declared.Name.{Name}
 use Rattle.meaning.specs.Words.{slotWords, lengthWord, nameOf, blocks, Row}
 use Rattle.meaning.specs.Sound.{fault}
 use Rattle.meaning.specs.Answers.{fileOf, openOn, Write, write}
-use Rattle.meaning.specs.Requests.{emptying, goodChannel, wordOf, closing, finalLength}
+use Rattle.meaning.specs.Requests.{emptying, goodChannel, wordOf, givesWay, closing, finalLength}
 use Rattle.meaning.specs.Batch.{serve}
 use Rattle.meaning.specs.declared.Key.{Key}
 use Rattle.meaning.specs.declared.Key.the-variants.{File, Open}
@@ -153,7 +153,7 @@ module _ (v : ℕ) (d : List ℕ) (s : Sound v d) (p : Request) where
   closing-same : (D : Key → Type 0) → Disjoint (Names d p) D → (y : ℕ) → D (Open y) → (r : Row) → D (File (nameOf (r .entry)))
       → openOn d y ≡ some r
       → (n : ℕ) → closing d1 r n ≡ closing d r n
-  unfolding closing
+  unfolding closing givesWay
   closing-same D no-both y named r made e n =
       let g = plan-good v d s p in
       rw (

@@ -1,18 +1,23 @@
 -- Demand 2, *Kept*: each request leaves a sound directory sound for the same V, and so does a fresh start; what lookup answers
--- afterwards for the name concerned, and that for every other name it answers as before (proofs/Kept.antt).
+-- afterwards for the name concerned, and that for every other name it answers as before; and every FILE.BAD stays (proofs/Kept.antt).
 use Prim.Native.Nat.{ℕ}
 use mathlib.Core.Path.{_≡_}
+use mathlib.Core.Logic.{_⊎_}
 use mathlib.Core.Bool.{true, false}
 use mathlib.Core.Option.{some}
-use mathlib.Core.List.{List}
+use mathlib.Core.List.{List, [], _∷_}
 use lib.IntN.{ℤ}
 use Rattle.meaning.specs.declared.Name.{Name}
+use Rattle.meaning.specs.declared.Key.the-variants.{File}
 use Rattle.meaning.specs.declared.Request.{Request}
-use Rattle.meaning.specs.Words.{nameOf, Row}
+use Rattle.meaning.specs.declared.Answer.{Answer}
+use Rattle.meaning.specs.Words.{Entry, nameOf, blocks, dateOf, Row, rows}
+use Rattle.meaning.specs.Keys.{keyOf, fileBad}
 use Rattle.meaning.specs.Sound.{fault}
 use Rattle.meaning.specs.Answers.{refusal, openOn}
 use Rattle.meaning.specs.Requests.{legal, lookup, delete, abandon, rename, close, fresh, wordOf}
 use Rattle.meaning.specs.Batch.{serve}
+use Rattle.laws.specs.Order.{filesOf}
 
 -- for every other name lookup answers as before
 abbrev pub OthersAsBefore : ℕ → List ℕ → List ℕ → Name → Type 0
@@ -36,12 +41,27 @@ pub record KeptByRename (v : ℕ) (d : List ℕ) (old new : Name) : Type 0 where
   pub gone : rename v d old new .answer .number ≡ 0 → lookup v (rename v d old new .words) old .answer ≡ refusal 13
   pub others : (n : Name) → (n ≡ old → ⊥) → (n ≡ new → ⊥) → lookup v (rename v d old new .words) n .answer ≡ lookup v d n .answer
 
--- a close that succeeds makes the file of its tentative entry's name: where that is a legal name, lookup answers just what the close did;
--- every other name is as before
+-- somewhere among these rows stands this entry, with this first block
+abbrev pub Present : List Row → ℕ → Entry → Type 0
+Present [] first e = ⊥
+Present (r ∷ rs) first e = ((r .first ≡ first) × (r .entry ≡ e)) ⊎ Present rs first e
+
+-- among these rows stands a file of this name, with the first block, length and date of an answer
+pub record FilePresent (rs : List Row) (name : Name) (a : Answer) : Type 0 where
+  pub entry : Entry
+  pub present : Present rs (a .first) entry
+  pub key : keyOf entry ≡ some (File name)
+  pub length : blocks entry ≡ a .length
+  pub date : dateOf entry ≡ a .date
+
+-- a close that succeeds makes the file of its tentative entry's name: it stands in the directory as the close answered it; and where the
+-- name is legal and not FILE.BAD, of which lookup finds the first, lookup answers just that; every other name is as before
 pub record KeptByClose (v : ℕ) (d : List ℕ) (job channel : ℕ) (final : ℤ) : Type 0 where
   pub sound : fault v (close v d job channel final .words) ≡ 0
+  pub present : (r : Row) → openOn d (wordOf job channel) ≡ some r → close v d job channel final .answer .number ≡ 0
+      → FilePresent (rows (close v d job channel final .words)) (nameOf (r .entry)) (close v d job channel final .answer)
   pub made : (r : Row) → openOn d (wordOf job channel) ≡ some r → close v d job channel final .answer .number ≡ 0
-      → legal (nameOf (r .entry)) ≡ true
+      → legal (nameOf (r .entry)) ≡ true → (nameOf (r .entry) ≡ fileBad → ⊥)
       → lookup v (close v d job channel final .words) (nameOf (r .entry)) .answer ≡ close v d job channel final .answer
   pub others : (r : Row) → openOn d (wordOf job channel) ≡ some r
       → OthersAsBefore v d (close v d job channel final .words) (nameOf (r .entry))
@@ -52,6 +72,17 @@ pub record KeptByFresh (v : ℕ) (after : List ℕ) : Type 0 where
   pub none : (n : Name) → legal n ≡ true → lookup v after n .answer ≡ refusal 13
   pub illegal : (n : Name) → legal n ≡ false → lookup v after n .answer ≡ refusal 7
 
+-- each of the first rows stands among the second ones, one for one and in the same order: the same words from the same block on, in
+-- whatever slot
+abbrev pub AllStay : List Row → List Row → Type 0
+AllStay [] ss = Unit {0}
+AllStay (r ∷ rs) [] = ⊥
+AllStay (r ∷ rs) (s ∷ ss) = ((r .first ≡ s .first) × (r .entry ≡ s .entry) × AllStay rs ss) ⊎ AllStay (r ∷ rs) ss
+
+-- every FILE.BAD stays, and with it the blocks that it covers
+abbrev pub BadStays : List ℕ → List ℕ → Type 0
+BadStays d after = AllStay (filesOf d fileBad) (filesOf after fileBad)
+
 -- each on a sound directory; every request of a batch, enter too; and a fresh start that succeeds, on any words
 pub record Kept (v : ℕ) : Type 0 where
   pub deletes : (d : List ℕ) → fault v d ≡ 0 → (name : Name) → KeptByDelete v d name
@@ -59,4 +90,5 @@ pub record Kept (v : ℕ) : Type 0 where
   pub renames : (d : List ℕ) → fault v d ≡ 0 → (old new : Name) → KeptByRename v d old new
   pub closes : (d : List ℕ) → fault v d ≡ 0 → (job channel : ℕ) (final : ℤ) → KeptByClose v d job channel final
   pub requests : (d : List ℕ) → fault v d ≡ 0 → (q : Request) → fault v (serve v d q .words) ≡ 0
+  pub bads : (d : List ℕ) → fault v d ≡ 0 → (q : Request) → BadStays d (serve v d q .words)
   pub starts : (d : List ℕ) (extra : ℕ) → fresh v d extra .answer .number ≡ 0 → KeptByFresh v (fresh v d extra .words)

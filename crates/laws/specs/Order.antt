@@ -4,7 +4,7 @@
 use Prim.Native.Nat.{ℕ, _-_}
 use mathlib.Core.Path.{_≡_}
 use mathlib.Core.Logic.{_⊎_}
-use mathlib.Core.Bool.{cond}
+use mathlib.Core.Bool.{Bool, cond}
 use mathlib.Core.List.{List, [], _∷_, List·Permᴰ}
 use mathlib.Core.Option.{Option, none, some}
 use Rattle.meaning.specs.declared.Op.{Op}
@@ -14,7 +14,8 @@ use Rattle.meaning.specs.declared.Key.{Key}
 use Rattle.meaning.specs.declared.Key.the-variants.{File, Open}
 use Rattle.meaning.specs.declared.Request.{Request}
 use Rattle.meaning.specs.declared.Answer.{Answer}
-use Rattle.meaning.specs.Words.{firstData, nameOf, Row, total, allEntries}
+use Rattle.meaning.specs.Words.{firstData, Entry, nameOf, Row, rows, total, allEntries}
+use Rattle.meaning.specs.Keys.{holds}
 use Rattle.meaning.specs.Sound.{fault}
 use Rattle.meaning.specs.Answers.{fileOf, openOn}
 use Rattle.meaning.specs.Requests.{goodChannel, wordOf}
@@ -75,11 +76,22 @@ pub record Ordered (v : ℕ) (d : List ℕ) (qs rs : List Request) : Type 0 wher
   pub answers : List·Permᴰ (paired qs (answersTo v d qs)) (paired rs (answersTo v d rs))
   pub words : wordsAfter v d qs ≡ wordsAfter v d rs
 
--- and of the batch alone: the directory is sound; a file that none names keeps its row: first block, length and date; so does an open
--- channel, all words of its entry; the lengths of all entries add up to the volume's data blocks, V − 6 − 2N
+-- all rows whose entries pass a test
+unfoldable pub every : (Entry → Bool) → List Row → List Row
+every p [] = []
+every p (r ∷ rs) = let f = every p rs in cond (p (r .entry)) (r ∷ f) f
+
+-- all files of a name, in chain order: one at most, but for FILE.BAD
+abbrev pub filesOf : List ℕ → Name → List Row
+filesOf d n = every (holds (File n)) (rows d)
+
+-- and of the batch alone: the directory is sound; a file that none names keeps its row: first block, length and date, and where several
+-- have the name FILE.BAD each keeps its own; so does an open channel, all words of its entry; the lengths of all entries add up to the
+-- volume's data blocks, V − 6 − 2N
 pub record KeptByBatch (v : ℕ) (d : List ℕ) (qs : List Request) : Type 0 where
   pub sound : fault v (wordsAfter v d qs) ≡ 0
   pub files : (n : Name) → All (λ (q : Request). Names d q (File n) → ⊥) qs → fileOf (wordsAfter v d qs) n ≡ fileOf d n
+  pub every-file : (n : Name) → All (λ (q : Request). Names d q (File n) → ⊥) qs → filesOf (wordsAfter v d qs) n ≡ filesOf d n
   pub channels : (x : ℕ) → All (λ (q : Request). Names d q (Open x) → ⊥) qs → openOn (wordsAfter v d qs) x ≡ openOn d x
   pub lengths : total (allEntries (wordsAfter v d qs)) ≡ v - firstData d
 

@@ -17,16 +17,16 @@ faults = 1 ∷ 2 ∷ 3 ∷ 4 ∷ 5 ∷ 6 ∷ []
 
 -- the refusals of enter that are tested before those for room
 abbrev pub beforeRoom : List ℕ
-beforeRoom = 7 ∷ 8 ∷ 9 ∷ 10 ∷ []
+beforeRoom = 7 ∷ 19 ∷ 8 ∷ 9 ∷ 10 ∷ []
 
--- the refusals that document 01's table lists for a request
+-- the refusals that document 01's table lists for a request, and 19 of document 02, in the order in which they are tested
 abbrev pub asked : Op → List ℕ
 asked Lookup = 7 ∷ 13 ∷ []
 asked Enter = beforeRoom ++ 11 ∷ 12 ∷ []
 asked Close = 8 ∷ 15 ∷ 16 ∷ []
 asked Abandon = 8 ∷ 15 ∷ []
-asked Delete = 7 ∷ 13 ∷ []
-asked Rename = 7 ∷ 13 ∷ 14 ∷ []
+asked Delete = 7 ∷ 19 ∷ 13 ∷ []
+asked Rename = 7 ∷ 19 ∷ 13 ∷ 14 ∷ []
 
 -- a number stands in a list
 abbrev pub Among : ℕ → List ℕ → Type 0

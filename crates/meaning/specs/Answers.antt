@@ -65,7 +65,7 @@ abbrev pub isNone : {A : Type 0} → Option A → Bool
 isNone none = true
 isNone (some a) = false
 
--- the permanent file of a name
+-- the permanent file of a name; where several are spared, the first
 unfoldable pub fileOf : List ℕ → Name → Option Row
 fileOf d n = find (holds (File n)) (rows d)
 

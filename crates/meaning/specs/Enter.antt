@@ -11,6 +11,7 @@ use Rattle.meaning.specs.declared.Name.{Name}
 use Rattle.meaning.specs.Kinds.{tentativeStatus, isTentative, isEmpty}
 use Rattle.meaning.specs.Words.{segments, segment, totalOf, linkOf, extraBytesOf, firstOf, highest, slotWords, capacity, Entry}
 use Rattle.meaning.specs.Words.{lengthWord, kind, blocks, entries, total, chain}
+use Rattle.meaning.specs.Keys.{spared}
 use Rattle.meaning.specs.Sound.{any, beginsEmpty}
 use Rattle.meaning.specs.Answers.{Outcome, refuse, success, ifSound, unless, isNone, openOn}
 use Rattle.meaning.specs.Requests.{legal, goodChannel, wordOf, entryOf, emptyEntry, render}
@@ -235,6 +236,7 @@ enter v d name asked job channel date =
     let new = entryOf (slotWords d) tentativeStatus name n x date in
     ifSound v d λ _.
     unless 7 (legal name) d λ _.
+    unless 19 (not (spared name)) d λ _.
     unless 8 (goodChannel job channel) d λ _.
     unless 9 (goodSize size && goodDate date) d λ _.
     unless 10 (isNone (openOn d x)) d λ _.

@@ -147,6 +147,13 @@ area length = emptyEntry 7 length
 abbrev pub tentative : ℕ → ℕ → Entry
 tentative length channel = entryOf 7 tentativeStatus (short 1600) length channel 0
 
+-- a file of this name, finished or open: the words come from the text, and so are not taken from what they test
+abbrev pub fileNamed : String → ℕ → Entry
+fileNamed t length = entryOf 7 permanentStatus (nameIn t) length 0 0
+
+abbrev pub openNamed : String → ℕ → ℕ → Entry
+openNamed t length channel = entryOf 7 tentativeStatus (nameIn t) length channel 0
+
 -- two segments in use, the second with other numbers in the word where segment 1 has H
 abbrev pub twoSegments : List ℕ
 twoSegments = render (2 ∷ 2 ∷ 2 ∷ 0 ∷ 10 ∷ []) (area 5 ∷ []) ++ render (2 ∷ 0 ∷ 77 ∷ 0 ∷ 15 ∷ []) (area 5 ∷ [])
@@ -165,7 +172,9 @@ fullSegment =
 -- another segment than 1; a looped chain; one channel word or one name twice; refusals in number order, where two would apply; a close
 -- over a file of the same name, which keeps its own blocks; the highest channel of either job, a file on each; the first and last days of
 -- the ages, and 16,384, which is an age alone and no date; requests that touch no file that they don't name, though it shares a name word
--- or stands next; and a split that parts no tentative entry from its area
+-- or stands next; a split that parts no tentative entry from its area; and FILE.BAD: two and three are sound, and of no other name two,
+-- though it shares two words with it; lookup finds the first; 19 comes after 7 and before 8 and 13, where there is none, too; and a close
+-- leaves every other one
 unfoldable pub slips : List Case
 slips =
     faulty 100 (oneSegment (file 1600 65535 ∷ file 3200 93 ∷ [])) 5
@@ -250,6 +259,33 @@ slips =
     ∷ gives (askDelete "A        ") 8 50 0
     ∷ [])
     (50 ∷ 7 ∷ 35 ∷ [])
+    ∷ faulty 100 (oneSegment (fileNamed "FILE  BAD" 10 ∷ area 10 ∷ fileNamed "FILE  BAD" 10 ∷ fileNamed "FILE  BAD" 62 ∷ [])) 0
+    ∷ faulty 100 (oneSegment (fileNamed "FILE1 BAD" 10 ∷ area 10 ∷ fileNamed "FILE1 BAD" 72 ∷ [])) 6
+    ∷ faulty 100 (oneSegment (fileNamed "FILE     " 10 ∷ area 10 ∷ fileNamed "FILE     " 72 ∷ [])) 6
+    ∷ faulty 100 (oneSegment (fileNamed "ABCE  BAD" 10 ∷ area 10 ∷ fileNamed "ABCE  BAD" 72 ∷ [])) 6
+    ∷ faulty 100 (oneSegment (openNamed "FILE  BAD" 10 3 ∷ area 10 ∷ openNamed "FILE  BAD" 10 3 ∷ area 62 ∷ [])) 6
+    ∷ run 100 (oneSegment (file 1600 10 ∷ fileNamed "FILE  BAD" 5 ∷ fileNamed "FILE  BAD" 7 ∷ area 70 ∷ []))
+    (gives (askLookup "FILE  BAD") 18 5 0
+    ∷ gets (askDelete "FILE  BAD") 19
+    ∷ gets (askRename "FILE  BAD" "B B      ") 7
+    ∷ gets (askRename "FILE  BAD" "A        ") 19
+    ∷ gets (askRename "A        " "FILE  BAD") 19
+    ∷ gets (askRename "B        " "FILE  BAD") 19
+    ∷ gets (askEnter "FILE  BAD" (negsuc 1) 1 256 1) 19
+    ∷ gives (askRename "A        " "FILE1 BAD") 8 10 0
+    ∷ gives (askDelete "FILE1 BAD") 8 10 0
+    ∷ gives (askLookup "FILE  BAD") 18 5 0
+    ∷ [])
+    (10 ∷ 5 ∷ 7 ∷ 70 ∷ [])
+    ∷ run 100 (oneSegment (file 1600 50 ∷ area 42 ∷ []))
+    (gets (askLookup "FILE  BAD") 13 ∷ gets (askDelete "FILE  BAD") 19 ∷ gets (askRename "FILE  BAD" "B        ") 19 ∷ [])
+    (50 ∷ 42 ∷ [])
+    ∷ run 100 (oneSegment (fileNamed "FILE  BAD" 10 ∷ openNamed "FILE  BAD" 20 3 ∷ area 20 ∷ openNamed "FILE  BAD" 5 4 ∷ area 37 ∷ []))
+    (gives (askClose 0 3 (pos 15)) 18 15 0 ∷ gives (askClose 0 4 (pos 5)) 58 5 0 ∷ gives (askLookup "FILE  BAD") 8 10 0 ∷ [])
+    (10 ∷ 15 ∷ 25 ∷ 5 ∷ 37 ∷ [])
+    ∷ run 100 (oneSegment (openNamed "FILE  BAD" 20 3 ∷ area 20 ∷ fileNamed "FILE  BAD" 10 ∷ area 42 ∷ []))
+    (gives (askLookup "FILE  BAD") 48 10 0 ∷ gives (askClose 0 3 (pos 20)) 8 20 0 ∷ gives (askLookup "FILE  BAD") 8 20 0 ∷ [])
+    (20 ∷ 20 ∷ 10 ∷ 42 ∷ [])
     ∷ []
 
 abbrev pub outcome : ℕ → List ℕ → Ask → Outcome

@@ -1,6 +1,6 @@
 -- The key of an entry: what it is known by, and what may stand once in a directory (document 01, "Sound directories", rule 6, and the
 -- requests, which find a permanent file by its name and an open one by its channel).
-use mathlib.Core.Bool.{Bool, true, false, _&&_}
+use mathlib.Core.Bool.{Bool, true, false, _&&_, not}
 use mathlib.Core.Option.{Option, none, some}
 use lib.Dec.{eqb}
 use Rattle.meaning.specs.declared.Kind.{Kind}
@@ -36,9 +36,17 @@ isKey k (some l) = sameKey l k
 unfoldable pub holds : Key → Entry → Bool
 holds k e = isKey k (keyOf e)
 
--- a key that no two entries may have: every one
+-- FILE.BAD, as its three words: RT-11 covers each area of bad blocks with a permanent file of this name (document 02, Req 03)
+abbrev pub fileBad : Name
+fileBad = record { first = 9972; second = 8000; extension = 3244 }
+
+-- the one name that rule 6 spares
+unfoldable pub spared : Name → Bool
+spared n = sameName n fileBad
+
+-- a key that no two entries may have: every one but the spared name
 unfoldable pub once : Key → Bool
-once (File n) = true
+once (File n) = not (spared n)
 once (Open x) = true
 
 -- two entries clash where they have the same key, and it may stand once

@@ -11,6 +11,7 @@ use Rattle.meaning.specs.declared.Name.{Name}
 use Rattle.meaning.specs.Kinds.{emptyStatus, permanentStatus, endStatus}
 use Rattle.meaning.specs.Words.{segments, firstData, slotWords, Entry, Row}
 use Rattle.meaning.specs.Words.{statusWord, nameWord, name2Word, extensionWord, lengthWord, channelWord, nameOf, blocks, dateOf}
+use Rattle.meaning.specs.Keys.{spared}
 use Rattle.meaning.specs.Sound.{bad1}
 use Rattle.meaning.specs.Answers.{Outcome, refuse, success, ifSound, unless, onRow, isNone, fileOf, openOn, Write, put, write}
 
@@ -34,10 +35,12 @@ lookup v d name =
 unfoldable pub emptying : Row → List Write
 emptying r = put (r .at) statusWord emptyStatus ∷ []
 
+-- delete, rename (from it and to it) and enter are not for FILE.BAD: 19, straight after 7 (document 02, Req 03)
 unfoldable pub delete : ℕ → List ℕ → Name → Outcome
 delete v d name =
     ifSound v d λ _.
     unless 7 (legal name) d λ _.
+    unless 19 (not (spared name)) d λ _.
     onRow 13 (fileOf d name) d λ r.
     successWith r (write d (emptying r))
 
@@ -72,6 +75,7 @@ unfoldable pub rename : ℕ → List ℕ → Name → Name → Outcome
 rename v d old new =
     ifSound v d λ _.
     unless 7 (legal old && legal new) d λ _.
+    unless 19 (not (spared old || spared new)) d λ _.
     onRow 13 (fileOf d old) d λ r.
     unless 14 (isNone (fileOf d new)) d λ _.
     successWith r (write d (renaming r new))
@@ -81,6 +85,10 @@ unfoldable pub replacing : Option Row → List Write
 replacing none = []
 replacing (some old) = emptying old
 
+-- the file that gives way to a new one of its name; a FILE.BAD gives way to none, as several may stand (document 02, Req 03)
+unfoldable pub givesWay : List ℕ → Name → Option Row
+givesWay d n = cond (spared n) none (fileOf d n)
+
 -- the entry becomes permanent with its final length, and the blocks that it gives back go to the area behind it
 unfoldable pub closing : List ℕ → Row → ℕ → List Write
 closing d r n =
@@ -89,7 +97,7 @@ closing d r n =
     ∷ put (r .at) lengthWord n
     ∷ put (r .at) channelWord 0
     ∷ put next lengthWord (getD d (next + lengthWord) 0 + (blocks (r .entry) - n))
-    ∷ replacing (fileOf d (nameOf (r .entry)))
+    ∷ replacing (givesWay d (nameOf (r .entry)))
 
 -- a final length: a count of blocks, or one below 0
 unfoldable pub finalLength : ℤ → Option ℕ

@@ -94,7 +94,7 @@ filled v d b (s ∷ ss) = let r = filled v d (b + total (entries d s)) ss in eqb
 unfoldable pub bad5 : ℕ → List ℕ → Bool
 bad5 v d = not (filled v d (firstData d) (chain d))
 
--- some entry has the key of a later one: two finished files share a name, or two open files a channel word
+-- some entry clashes with a later one: two finished files share a name that is not spared, or two open files a channel word
 unfoldable pub clashes : List Entry → Bool
 clashes [] = false
 clashes (e ∷ es) = let r = clashes es in any (clash e) es || r

@@ -1,5 +1,6 @@
 // The vocabulary of document 01 as plain types and named numbers. What they mean stands in specs/, under the same names.
 ghost use mathlib.Core.Path.{_≡_};
+ghost use Rattle.meaning.specs.Keys.{spared};
 ghost use Rattle.meaning.specs.Answers.{refusal, granted};
 
 // The statuses of a slot.
@@ -38,6 +39,26 @@ pub struct Name {
     pub first: u16,
     pub second: u16,
     pub extension: u16,
+}
+
+// FILE.BAD, the one name that may stand more than once.
+pub const FILE_BAD: Name = Name {
+    first: 9972,
+    second: 8000,
+    extension: 3244,
+};
+
+// Whether a name is spared, up to the first word that differs.
+pub fn is_spared(name: Name) -> bool
+    ensures { λ r. ⌜ r ≡ spared name ⌝ }
+{
+    if name.first != FILE_BAD.first {
+        return false;
+    }
+    if name.second != FILE_BAD.second {
+        return false;
+    }
+    name.extension == FILE_BAD.extension
 }
 
 // What an entry is known by: a permanent file by its name, a tentative entry by its channel word.

@@ -2,7 +2,7 @@
 -- Two entries clash exactly when they have the same key and it may stand once; so rule 6 says that of each key that may stand once there is
 -- one entry at most.
 use Prim.Native.Nat.{ℕ, _+_, _≤_}
-use mathlib.Core.Path.{_≡_, refl, sym, _∙_, fun-ext}
+use mathlib.Core.Path.{_≡_, refl, sym, ap, _∙_, fun-ext}
 use mathlib.Core.Logic.{_⊎_, inl, inr}
 use mathlib.Core.Bool.{Bool, true, false, cond, _&&_, _||_, true≢false}
 use mathlib.Core.List.{List, [], _∷_}
@@ -17,20 +17,45 @@ use Rattle.meaning.specs.declared.Name.{Name}
 use Rattle.meaning.specs.declared.Key.{Key}
 use Rattle.meaning.specs.declared.Key.the-variants.{File, Open}
 use Rattle.meaning.specs.Kinds.{isTentative, isPermanent}
-use Rattle.meaning.specs.Words.{Entry, kind, nameOf, sameName, channelOf}
-use Rattle.meaning.specs.Keys.{keyOf, sameKey, holds, once, clash}
+use Rattle.meaning.specs.Words.{Entry, kind, nameOf, sameName, channelOf, rows}
+use Rattle.meaning.specs.Keys.{keyOf, sameKey, holds, fileBad, spared, once, clash}
 use Rattle.meaning.specs.Sound.{any, clashes}
+use Rattle.meaning.specs.Answers.{find, fileOf}
+use Rattle.meaning.specs.Requests.{givesWay}
 use Rattle.walks.proofs.Told.{permanent-kind, tentative-kind}
 use Rattle.walks.proofs.Keyed.{holds-file, holds-open, name-is, name-own, key-is, key-own, has-key, key-has}
 
--- which keys may stand once: every one
-pub once-file : (n : Name) → once (File n) ≡ true
+-- which keys may stand once: every channel word, and every name that is not spared; and that is FILE.BAD alone
+pub once-file : (n : Name) → spared n ≡ false → once (File n) ≡ true
 unfolding once
-once-file n = refl
+once-file n h = rw h
+
+pub spared-is : (n : Name) → spared n ≡ true → n ≡ fileBad
+unfolding spared
+spared-is n h = name-is n fileBad h
+
+pub once-other : (n : Name) → (n ≡ fileBad → ⊥) → once (File n) ≡ true
+once-other n h = once-file n (never (spared n) (λ t. h (spared-is n t)))
+
+pub once-bad : once (File fileBad) ≡ false
+unfolding once spared
+once-bad = rw (name-own fileBad)
+
+pub once-not : (n : Name) → once (File n) ≡ true → n ≡ fileBad → ⊥
+once-not n h e = true≢false (sym h ∙ ap (λ (m : Name). once (File m)) e ∙ once-bad)
 
 pub once-open : (x : ℕ) → once (Open x) ≡ true
 unfolding once
 once-open x = refl
+
+-- to a FILE.BAD no file gives way, and to any other name the file that is found by it
+pub no-old : (d : List ℕ) (n : Name) → spared n ≡ true → givesWay d n ≡ none
+unfolding givesWay
+no-old d n s = rw s
+
+pub old-file : (d : List ℕ) (n : Name) → spared n ≡ false → givesWay d n ≡ find (holds (File n)) (rows d)
+unfolding givesWay fileOf
+old-file d n s = rw s
 
 -- two keys are the same, or not
 pub same-key : (k l : Key) → Dec (k ≡ l)

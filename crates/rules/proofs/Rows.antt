@@ -1,6 +1,6 @@
 -- The rows of a sound directory: each stands at a place of the grid and is what stands there, and a tentative one has an empty
--- entry next. What is found among rows passes the test, and of a key it is the only one; and a test of rows that were changed
--- one by one finds what another test finds before, if the two agree row by row.
+-- entry next. What is found among rows passes the test, and of a key that may stand once it is the only one; and a test of rows
+-- that were changed one by one finds what another test finds before, if the two agree row by row.
 use Prim.Native.Nat.{ℕ, zero, suc, _+_, _*_, _-_, _≤_}
 use mathlib.Core.Path.{_≡_, refl, sym, ap, ap₂, _∙_, subst}
 use mathlib.Core.Bool.{Bool, true, false, cond, _||_, true≢false}

@@ -1,9 +1,10 @@
 -- What a request may do to a slot, and what follows for the slots of a segment. It keeps the slot; or an empty entry stays one;
--- or an entry of a key that the request names becomes empty, or permanent with a key that it names. One function tells by how
+-- or an entry of a key that the request names, and that may stand once, becomes empty, or permanent with a key that it names. So an entry
+-- of a key that may stand more than once is kept. One function tells by how
 -- much the first block of the slot at a place falls. Slots so touched stay readable, keep their sum of lengths, and have the
 -- same rows but for that.
 use Prim.Native.Nat.{ℕ, zero, suc, _+_, _-_}
-use mathlib.Core.Path.{_≡_, refl, sym, ap₂, _∙_}
+use mathlib.Core.Path.{_≡_, refl, sym, ap, ap₂, _∙_}
 use mathlib.Core.Logic.{_⊎_, inl, inr}
 use mathlib.Core.Bool.{Bool, true, false, cond, _||_, true≢false, false≢true}
 use mathlib.Core.List.{List, [], _∷_, map}
@@ -15,18 +16,18 @@ use Rattle.meaning.specs.Kinds.{isTentative, isEnd}
 use Rattle.meaning.specs.Words.{Entry, kind, blocks, upto, total, Row, rowsIn}
 use Rattle.walks.specs.Scan.{badBy, longNamed, scanBad}
 use Rattle.meaning.specs.declared.Key.{Key}
-use Rattle.meaning.specs.Keys.{holds}
+use Rattle.meaning.specs.Keys.{holds, once}
 use Rattle.walks.specs.Lists.{All}
-use Rattle.rules.proofs.Keys.{holds-kind, empty-holds}
+use Rattle.rules.proofs.Keys.{one-key, holds-kind, empty-holds}
 use Rattle.rules.proofs.Grid.{grid}
 
 -- C: the keys that are named; x: by how much the slot's first block falls. Only an empty entry's may
 pub data Touch (C : Key → Type 0) (x : ℕ) (e e′ : Entry) : Type 0 where
   keep : e′ ≡ e → x ≡ 0 → Touch C x e e′
   area : kind e ≡ Empty → kind e′ ≡ Empty → Touch C x e e′
-  gone : (k : Key) → C k → holds k e ≡ true → kind e′ ≡ Empty → x ≡ 0 → Touch C x e e′
-  made : (k l : Key) → C k → holds k e ≡ true → C l → holds l e′ ≡ true → kind e′ ≡ Permanent → longNamed e′ ≡ false → x ≡ 0
-      → Touch C x e e′
+  gone : (k : Key) → C k → once k ≡ true → holds k e ≡ true → kind e′ ≡ Empty → x ≡ 0 → Touch C x e e′
+  made : (k l : Key) → C k → once k ≡ true → holds k e ≡ true → C l → holds l e′ ≡ true → kind e′ ≡ Permanent → longNamed e′ ≡ false
+      → x ≡ 0 → Touch C x e e′
 
 -- at place p, from the slots f to the slots f′: the first block of the slot at p falls by δ p
 pub record At (C : Key → Type 0) (δ : ℕ → ℕ) (w : ℕ) (f f′ : ℕ → Entry) (p : ℕ) : Type 0 where
@@ -41,15 +42,15 @@ live-end e (inr h) = rw h
 end-same : {C : Key → Type 0} {x : ℕ} {e e′ : Entry} → Touch C x e e′ → isEnd (kind e′) ≡ isEnd (kind e)
 end-same (keep h z) = rw h
 end-same (area h g) = rw (h, g)
-end-same {e = e} (gone k c h g z) = rw g (sym (live-end e (holds-kind k e h)))
-end-same {e = e} (made k l c h c′ h′ g b z) = rw g (sym (live-end e (holds-kind k e h)))
+end-same {e = e} (gone k c o h g z) = rw g (sym (live-end e (holds-kind k e h)))
+end-same {e = e} (made k l c o h c′ h′ g b z) = rw g (sym (live-end e (holds-kind k e h)))
 
 -- the first block falls of an empty entry only
 still : {C : Key → Type 0} {x : ℕ} {e e′ : Entry} → Touch C x e e′ → (kind e ≡ Empty → ⊥) → x ≡ 0
 still (keep h z) n = z
 still (area h g) n = absurd (n h)
-still (gone k c h g z) n = z
-still (made k l c h c′ h′ g b z) n = z
+still (gone k c o h g z) n = z
+still (made k l c o h c′ h′ g b z) n = z
 
 end-still : {C : Key → Type 0} {x : ℕ} {e e′ : Entry} → Touch C x e e′ → isEnd (kind e) ≡ true → x ≡ 0
 end-still t g = still t (λ h. false≢true (rw h at g))
@@ -57,13 +58,20 @@ end-still t g = still t (λ h. false≢true (rw h at g))
 pub live-still : {C : Key → Type 0} {x : ℕ} {e e′ : Entry} (k : Key) → Touch C x e e′ → holds k e ≡ true → x ≡ 0
 live-still {e = e} k t g = still t (λ h. false≢true (sym (empty-holds k e h) ∙ g))
 
+-- an entry of a key that may stand more than once is kept
+pub spare : {C : Key → Type 0} {x : ℕ} {e e′ : Entry} (k : Key) → once k ≡ false → Touch C x e e′ → holds k e ≡ true → e′ ≡ e
+spare k s (keep h z) t = h
+spare {e = e} k s (area h g) t = absurd (false≢true (sym (empty-holds k e h) ∙ t))
+spare {e = e} k s (gone l c o h g z) t = absurd (true≢false (sym o ∙ ap once (one-key l k e h t) ∙ s))
+spare {e = e} k s (made l m c o h c′ h′ g b z) t = absurd (true≢false (sym o ∙ ap once (one-key l k e h t) ∙ s))
+
 -- no slot becomes tentative
 tentative-less : {C : Key → Type 0} {x : ℕ} {e e′ : Entry} → Touch C x e e′ → isTentative (kind e′) ≡ true
     → isTentative (kind e) ≡ true
 tentative-less (keep h z) g = rw h at g
 tentative-less (area h i) g = absurd (false≢true (rw i at g))
-tentative-less (gone k c h i z) g = absurd (false≢true (rw i at g))
-tentative-less (made k l c h c′ h′ i b z) g = absurd (false≢true (rw i at g))
+tentative-less (gone k c o h i z) g = absurd (false≢true (rw i at g))
+tentative-less (made k l c o h c′ h′ i b z) g = absurd (false≢true (rw i at g))
 
 -- rule 4. p, p′: a tentative entry directly before; b, b′: a long name; r, r′: the slots after are bad
 less : (p p′ : Bool) → (p′ ≡ true → p ≡ true) → p ≡ false → p′ ≡ false
@@ -92,9 +100,9 @@ by-touch : {C : Key → Type 0} {x : ℕ} {e e′ : Entry} → Touch C x e e′ 
     → (r ≡ false → r′ ≡ false) → badBy (kind e) p (longNamed e) r ≡ false → badBy (kind e′) p′ (longNamed e′) r′ ≡ false
 by-touch {e = e} (keep i z) p p′ r r′ f g h = rw i (by-kept (kind e) p p′ (longNamed e) r r′ f g h)
 by-touch (area i j) p p′ r r′ f g h = rw j (g (rw i at h))
-by-touch {e = e} (gone k c i j z) p p′ r r′ f g h =
+by-touch {e = e} (gone k c o i j z) p p′ r r′ f g h =
     rw j (g (neither (p || longNamed e) r (by-live (kind e) p (longNamed e) r (holds-kind k e i) h) .1))
-by-touch {e = e} {e′ = e′} (made k l c i c′ i′ j b z) p p′ r r′ f g h =
+by-touch {e = e} {e′ = e′} (made k l c o i c′ i′ j b z) p p′ r r′ f g h =
     rw j (or3 p p′ (longNamed e) (longNamed e′) r r′ f g b (by-live (kind e) p (longNamed e) r (holds-kind k e i) h))
 
 -- the slots after one that is no marker are readable

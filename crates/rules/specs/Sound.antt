@@ -11,6 +11,7 @@ use Rattle.meaning.specs.declared.Kind.the-variants.{Tentative, Empty, Permanen
 use Rattle.meaning.specs.declared.Name.{Name}
 use Rattle.meaning.specs.Words.{segments, firstData, segment, totalOf, extraBytesOf, firstOf, highest, slotWords, Entry}
 use Rattle.meaning.specs.Words.{nameOf, kind, channelOf, slots, entries, total, reached, allEntries}
+use Rattle.meaning.specs.Keys.{fileBad}
 
 -- 1: N is 1 to 31, the slice has exactly 512·N words, and V is 6+2N to 65,535
 pub record Rule1 (v : ℕ) (d : List ℕ) : Type 0 where
@@ -81,11 +82,12 @@ pub record Rule5 (v : ℕ) (d : List ℕ) : Type 0 where
   pub meets : (i : ℕ) → i + 1 < highest d → firstOf (segment d (visit d (i + 1))) ≡ endOf d (visit d i)
   pub ends : endOf d (visit d (highest d - 1)) ≡ v
 
--- 6: permanent entries at two different places have different names, tentative ones different channel words
+-- 6: permanent entries at two different places have different names, unless that is FILE.BAD (document 02, Req 03), tentative ones
+-- different channel words
 pub record Rule6 (d : List ℕ) : Type 0 where
   pub files : (i j : ℕ) → i < length (allEntries d) → j < length (allEntries d) → (i ≡ j → ⊥)
       → kind (getD (allEntries d) i []) ≡ Permanent → kind (getD (allEntries d) j []) ≡ Permanent
-      → nameOf (getD (allEntries d) i []) ≡ nameOf (getD (allEntries d) j []) → ⊥
+      → nameOf (getD (allEntries d) i []) ≡ nameOf (getD (allEntries d) j []) → nameOf (getD (allEntries d) i []) ≡ fileBad
   pub channels : (i j : ℕ) → i < length (allEntries d) → j < length (allEntries d) → (i ≡ j → ⊥)
       → kind (getD (allEntries d) i []) ≡ Tentative → kind (getD (allEntries d) j []) ≡ Tentative
       → channelOf (getD (allEntries d) i []) ≡ channelOf (getD (allEntries d) j []) → ⊥

@@ -221,6 +221,9 @@ pub fn enter_sound(d: &mut [u16], name: Name, size: i32, job: u16, channel: u16,
     if !is_legal_name(name) {
         return refused(7);
     }
+    if name == FILE_BAD {
+        return refused(19);
+    }
     if !is_channel(job, channel) {
         return refused(8);
     }

@@ -54,6 +54,9 @@ pub fn delete_sound(d: &mut [u16], name: Name) -> Answer {
     if !is_legal_name(name) {
         return refused(7);
     }
+    if name == FILE_BAD {
+        return refused(19);
+    }
     let Some(place) = find_file(d, name) else {
         return refused(13);
     };
@@ -64,6 +67,9 @@ pub fn delete_sound(d: &mut [u16], name: Name) -> Answer {
 pub fn rename_sound(d: &mut [u16], old: Name, new: Name) -> Answer {
     if !is_legal_name(old) || !is_legal_name(new) {
         return refused(7);
+    }
+    if old == FILE_BAD || new == FILE_BAD {
+        return refused(19);
     }
     let Some(place) = find_file(d, old) else {
         return refused(13);
@@ -98,8 +104,10 @@ pub fn close_sound(d: &mut [u16], job: u16, channel: u16, length: i32) -> Answer
         return refused(16);
     }
     let name = Name { first: d[at + 1], second: d[at + 2], extension: d[at + 3] };
-    if let Some(old) = find_file(d, name) {
-        d[old.at] = EMPTY;
+    if name != FILE_BAD {
+        if let Some(old) = find_file(d, name) {
+            d[old.at] = EMPTY;
+        }
     }
     let next = at + width_of(d);
     d[next + 4] += d[at + 4] - length as u16;

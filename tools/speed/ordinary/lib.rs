@@ -1,4 +1,4 @@
-//! The requests of document 01 as a good Rust programmer writes them where speed counts and nothing is proved: no heap, no copy of the
+//! The requests of document 01, with document 02's rules as far as they are proved, as a good Rust programmer writes them where speed counts and nothing is proved: no heap, no copy of the
 //! directory, every change in place. The proved routines are timed beside these.
 #![no_std]
 #![deny(unsafe_code)]
@@ -15,6 +15,7 @@ pub use enter::{enter, fresh};
 pub use files::{abandon, close, delete, lookup, rename};
 pub use listing::{listing, ROOM};
 pub use sound::fault;
+pub use words::FILE_BAD;
 
 #[derive(Clone, Copy, Debug, PartialEq, Eq)]
 #[repr(C)]

@@ -72,6 +72,9 @@ fn key_of(e: &[u16; 7]) -> u64 {
     four(*e.first_chunk().unwrap())
 }
 
+/// The key that may stand any number of times, of a file FILE.BAD; the status is the lowest word.
+const SPARED: u64 = PERMANENT as u64 | (FILE_BAD.first as u64) << 16 | (FILE_BAD.second as u64) << 32 | (FILE_BAD.extension as u64) << 48;
+
 /// Whether a name word spells no three characters.
 #[inline(always)]
 fn is_long(e: &[u16; 7]) -> bool {
@@ -88,7 +91,8 @@ fn slots_fault<const B: u32, const S: usize>(d: &[u16], number: usize, width: us
             if owed || is_long(e) {
                 return None;
             }
-            twice |= met.again(d, four(*e.first_chunk().unwrap()), place);
+            let key = four(*e.first_chunk().unwrap());
+            twice |= key != SPARED && met.again(d, key, place);
         } else if e[0] == TENTATIVE {
             if owed || is_long(e) {
                 return None;

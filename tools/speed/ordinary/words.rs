@@ -9,6 +9,9 @@ pub const END: u16 = 2048;
 /// The highest channel of a job.
 pub const CHANNEL_LIMIT: u16 = 255;
 
+/// FILE.BAD, the one name that may stand more than once.
+pub const FILE_BAD: Name = Name { first: 9972, second: 8000, extension: 3244 };
+
 /// The words of a slot.
 pub fn width_of(d: &[u16]) -> usize {
     7 + d[3] as usize / 2

@@ -25,7 +25,7 @@ chained-at : (s : tie.Start) → Chained (now (s .args .d))
 chained-at s = fault-chained (s .args .v) (now (s .args .d)) (s .pre .0)
 
 -- where the old file was looked for
-abbrev start : tie.After-find-entry → tie.Start
+abbrev start : tie.After-find-old → tie.Start
 start f = f .before .before .before .before .before .before
 
 slice-read-width : tie.Need-slice-read-width
@@ -50,8 +50,8 @@ name-at-requires c κs =
     let q = ready-at (c .before .before .before) in
     (omega arith, omega arith)
 
-find-entry-requires : tie.Need-find-entry-requires
-find-entry-requires c κs = chained-at (c .before .before .before .before .before)
+find-old-requires : tie.Need-find-old-requires
+find-old-requires c κs = chained-at (c .before .before .before .before .before)
 
 make-permanent-requires : tie.Need-make-permanent-requires
 make-permanent-requires c κs =
@@ -66,7 +66,7 @@ empty-old-requires c κs =
     let m = c .before .before .before in
     let f = m .before .before in
     let d = now (start f .args .d) in
-    inside-less (f .find-entry .result) (slotWords d) (length d) _ (omega arith) (sym (m .make-permanent .kept .0)) (f .find-entry .ensures .inside)
+    inside-less (f .find-old .result) (slotWords d) (length d) _ (omega arith) (sym (m .make-permanent .kept .0)) (f .find-old .ensures .inside)
 
 cast-succeeded : tie.Need-cast-succeeded
 cast-succeeded c =
@@ -90,8 +90,8 @@ returns c =
     let d = now (a .d) in
     let o = s .pre .1 in
     let q = ready-at s in
-    let k = old-key d (a .place) (o .row) q (slotWords d) (omega arith) _ _ (f .before .before .name-at .ensures) (f .find-entry .ensures .is) in
-    let w = ap (λ (z : List ℕ). write z (replacingAt (f .find-entry .result))) (m .make-permanent .ensures) in
+    let k = old-key d (a .place) (o .row) q (slotWords d) (omega arith) _ _ (f .before .before .name-at .ensures) (f .find-old .ensures .is) in
+    let w = ap (λ (z : List ℕ). write z (replacingAt (f .find-old .result))) (m .make-permanent .ensures) in
     record {
       answer = rw (o .is, q .first, q .date) (c .succeeded .ensures);
       words = rw (o .is) (e .empty-old .ensures ∙ w ∙ closed-words d (a .place) (o .row) (a .size) _ q k);
@@ -106,7 +106,7 @@ close-at-spec =
     add-width
     add-next
     name-at-requires
-    find-entry-requires
+    find-old-requires
     make-permanent-requires
     empty-old-requires
     cast-succeeded

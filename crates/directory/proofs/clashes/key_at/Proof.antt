@@ -41,7 +41,7 @@ returns-2 : tie.Need-returns-2
 returns-2 c =
     let a = c .before .before .before .before .before .args in
     file-key (now (a .d)) (a .place) (a .width) (omega arith) _ (c .before .before .is-tentative .ensures) (c .before .if1 .left)
-    (c .before .before .before .before .before .pre .1 .can)
+    (c .before .before .before .before .before .pre .1 .keyed)
     ∙ ap (λ (n : Name). some (File n)) (sym (c .name-at .ensures))
 
 pub key-at-spec : {M : Type 1} → statement M

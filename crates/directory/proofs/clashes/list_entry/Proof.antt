@@ -6,8 +6,8 @@ use Rattle.directory.proofs.Listing.{listed-entry, passed-entry}
 use Rattle.directory.proofs.clashes.list_entry.Statement.{statement}
 use Rattle.directory.proofs.clashes.list_entry.Tie as tie
 
-can-clash-requires : tie.Need-can-clash-requires
-can-clash-requires c κs = search needs
+has-key-requires : tie.Need-has-key-requires
+has-key-requires c κs = search needs
 
 cast-places : tie.Need-cast-places
 cast-places c = search needs
@@ -24,18 +24,18 @@ add-result c = search needs
 returns : tie.Need-returns
 returns c =
     let s = c .before .before .before in
-    listed-entry (s .args .width) (s .args .place) _ (s .pre .3) (s .pre .4) (sym (c .before .can-clash .ensures) ∙ c .if1 .taken)
+    listed-entry (s .args .width) (s .args .place) _ (s .pre .3) (s .pre .4) (sym (c .before .has-key .ensures) ∙ c .if1 .taken)
 
 returns-2 : tie.Need-returns-2
 returns-2 c =
     let s = c .before .before .before in
-    passed-entry (s .args .width) (s .args .place) _ (s .pre .3) (sym (c .before .can-clash .ensures) ∙ c .if1 .left)
+    passed-entry (s .args .width) (s .args .place) _ (s .pre .3) (sym (c .before .has-key .ensures) ∙ c .if1 .left)
 
 pub list-entry-spec : {M : Type 1} → statement M
 list-entry-spec =
     tie.close
     (tie.spec
-    can-clash-requires
+    has-key-requires
     cast-places
     mul-places
     element-write-places

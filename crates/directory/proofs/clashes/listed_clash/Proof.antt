@@ -1,5 +1,5 @@
 -- `listed_clash` meets its contract. The loop's invariant is `Table`: the buckets hold the entries passed, no two of which clash.
--- An entry that is found among those before it clashes with one of them; the measure is the entries left. Assumes nothing.
+-- An entry whose key is met among those before it clashes with one of them; the measure is the entries left. Assumes nothing.
 use native.Mathlib.Omega.{arith}
 use denote.Ref.{now}
 use borrow.Author.Needs.{needs}

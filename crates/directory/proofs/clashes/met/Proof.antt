@@ -1,5 +1,6 @@
 -- `met` meets its contract. The loop's invariant is `Walk`: what is found from the entry at hand on, along its bucket, is what is
--- found among all entries passed. Each entry leads to an earlier one, so the measure is its number. Assumes nothing.
+-- found among all entries passed; it counts if the key may stand once. Each entry leads to an earlier one, so the measure is its number.
+-- Assumes nothing.
 use native.Mathlib.Omega.{arith}
 use denote.Ref.{now}
 use borrow.Author.Needs.{needs}
@@ -48,10 +49,14 @@ cast-place c = omega (arith, at-hand (c .before) .fits, c .before .before .befor
 slot-keyed-requires : tie.Need-slot-keyed-requires Inv-loop μ-loop
 slot-keyed-requires c κs = (c .before .before .before .before .pre .0 .wide, at-hand (c .before) .fits)
 
+is-once-requires : tie.Need-is-once-requires Inv-loop μ-loop
+is-once-requires c κs = search needs
+
 returns : tie.Need-returns Inv-loop μ-loop
 returns c =
-    let s = c .before .before .before in
-    walk-hit (s .before .loop .inv) (s .loop-test .taken) (c .before .slot-keyed .ensures) (c .if1 .taken)
+    let i = c .before in
+    let s = i .before .before .before in
+    walk-hit (s .before .loop .inv) (s .loop-test .taken) (i .before .slot-keyed .ensures) (i .if1 .taken) (c .is-once .ensures)
 
 mul-number : tie.Need-mul-number Inv-loop μ-loop
 mul-number c = search needs
@@ -86,6 +91,7 @@ met-spec =
     element-copy-out-place
     cast-place
     slot-keyed-requires
+    is-once-requires
     returns
     mul-number
     element-copy-out-number
