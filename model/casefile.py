@@ -1,5 +1,5 @@
 """Writes case files (docs/CASES.md) and the lines that a right program writes for them, by the rules of rt11.py. There is nothing to run
-here: cases.py, requests.py, bench.py, evening.py, channels.py and trials.py use it.
+here: cases.py and what it uses do.
 """
 import struct
 

@@ -5,8 +5,8 @@
     python3 model/cases.py --check                          tells whether both parts are what the model gives today
     python3 model/cases.py --run FILE                       prints the lines that the model gives for a case file
 
-Our own part is the bench examples, the evening's batches, the channels, the ages, the bad areas, the trials and one seed of random requests. Its
-lines come from the model alone.
+Our own part is the bench examples, the evening's batches, the channels, the ages, the bad areas, the protected files, the trials and one seed of
+random requests. Its lines come from the model alone.
 """
 import itertools
 import pathlib
@@ -18,6 +18,7 @@ import bench
 import casefile
 import channels
 import evening
+import guards
 import requests
 import trials
 
@@ -34,6 +35,7 @@ def own_part():
     channels.add(case)
     ages.add(case)
     bads.add(case)
+    guards.add(case)
     trials.add(case)
     requests.add(case, SEED, DIRECTORIES)
     case.end()

@@ -11,14 +11,14 @@ import sys
 
 from casefile import CaseFile
 from rt11 import ABANDON, CHANNEL, CHANNEL_LIMIT, CLOSE, DELETE, EMPTY, END, ENTER, EXTRA, JOBS, LENGTH, LOOKUP, NAME
-from rt11 import FILE_BAD, PERMANENT, RENAME, STATUS, TENTATIVE
+from rt11 import FILE_BAD, KINDS, PERMANENT, PROTECT, PROTECTED, RENAME, STATUS, TENTATIVE, UNPROTECT
 from rt11 import Request, entries, first_data_block, named
 
 FIRST_PARTS = "A", "B", "AB", "ABCD", "FILE", "F1", "LONGER"
 NAMES = [named(f"{first}.{extension}") for first in FIRST_PARTS for extension in ("", "X", "CHG", "BAD")]
 # blank, above 63,999, a space first or inside, a dollar sign, code 29
 BAD_NAMES = [(0, 0, 0), (64_000, 0, 0), (1600, 64_000, 0), (40, 0, 0), (1600, 1600, 0), (43_200, 0, 0), (1600, 0, 29)]
-OPS = [ENTER] * 4 + [CLOSE] * 3 + [DELETE] * 2 + [LOOKUP, ABANDON, RENAME]
+OPS = [ENTER] * 8 + [CLOSE] * 6 + [DELETE] * 4 + [LOOKUP, ABANDON, RENAME] * 2 + [PROTECT, UNPROTECT]
 
 
 def entries_of(words):
@@ -37,7 +37,7 @@ class Chance(random.Random):
         kind = self.random()
         if kind < 0.05:
             return self.choice(BAD_NAMES)
-        files = [tuple(entry[NAME]) for entry in entries_of(words) if entry[STATUS] == PERMANENT]
+        files = [tuple(entry[NAME]) for entry in entries_of(words) if KINDS.get(entry[STATUS]) == "P"]
         return self.choice(files if files and kind < 0.5 else NAMES)
 
     def channel(self, words, op):
@@ -73,12 +73,13 @@ class Chance(random.Random):
         return [EMPTY, self.word(), self.word(), 0, self.length(), self.randrange(9), self.word()] + self.rest(extra)
 
     def file(self, extra, taken):
-        """A permanent entry of a name that is not taken yet, or now and then one more FILE.BAD."""
+        """A permanent entry of a name that is not taken yet, or now and then one more FILE.BAD; some are protected."""
         name = FILE_BAD if self.random() < 0.1 else self.choice(NAMES)
         while name in taken and name != FILE_BAD:
             name = tuple(self.randrange(64_000) for _ in range(3))
         taken.add(name)
-        return [PERMANENT, *name, self.length(), self.randrange(9), self.choice([0, 3556, self.word()])] + self.rest(extra)
+        status = PROTECTED if self.random() < 0.1 else PERMANENT
+        return [status, *name, self.length(), self.randrange(9), self.choice([0, 3556, self.word()])] + self.rest(extra)
 
     def open_file(self, extra, taken):
         """A tentative entry, of any name, on a channel that is not taken yet, with its area; or an area alone."""
@@ -141,7 +142,7 @@ def add_damage(case, chance):
     """One word changed, a request, and the word put back."""
     at = chance.randrange(len(case.words))
     old = case.words[at]
-    case.change((at, chance.choice([old ^ 1, 512, 1024, 2048, chance.word()])))
+    case.change((at, chance.choice([old ^ 1, old ^ 0o100000, 512, 1024, 2048, chance.word()])))
     case.serve(chance.request(case.words))
     if chance.random() < 0.8:
         case.change((at, old))

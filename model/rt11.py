@@ -12,7 +12,8 @@ from names import LAST_WORD, day_of_word, is_good_date, is_legal_name, text_of_w
 
 # The statuses, and the kind of entry that each is; the letter is the listing's.
 TENTATIVE, EMPTY, PERMANENT, END = 256, 512, 1024, 2048
-KINDS = {TENTATIVE: "T", EMPTY: "E", PERMANENT: "P"}
+PROTECTED = PERMANENT + 0o100000  # document 02, Req 06
+KINDS = {TENTATIVE: "T", EMPTY: "E", PERMANENT: "P", PROTECTED: "P"}
 
 # Places in an entry and in a segment's header.
 STATUS, NAME, LENGTH, CHANNEL, DATE = 0, slice(1, 4), 4, 5, 6
@@ -24,7 +25,7 @@ MOST_BLOCKS = 65_535
 CHANNEL_LIMIT = 255  # document 02, Req 07
 JOBS = 0, 2
 
-LOOKUP, ENTER, CLOSE, ABANDON, DELETE, RENAME = range(1, 7)
+LOOKUP, ENTER, CLOSE, ABANDON, DELETE, RENAME, PROTECT, UNPROTECT = range(1, 9)
 
 
 class Request(NamedTuple):
@@ -221,7 +222,7 @@ def fault(words, v):
     return next((number for number, is_broken in enumerate(RULES, 1) if is_broken(words, v)), 0)
 
 
-# -- Requests on a sound directory: refusals in number order, then what is done --
+# -- Requests on a sound directory: refusals in number order (but for 19 and 20 of document 02), then what is done --
 
 
 def row_of(words, wanted):
@@ -271,6 +272,15 @@ def done(words, place, writes):
     return answered(next(row for row in rows(after) if row.place == place), after)
 
 
+def is_protected(row):
+    return row is not None and row.entry[STATUS] == PROTECTED
+
+
+def given_way(words, name):
+    """The permanent file that a new one of this name replaces, or None: a FILE.BAD replaces none (document 02, Req 03)."""
+    return None if tuple(name) == FILE_BAD else file_of(words, name)
+
+
 def emptied(row):
     return [(row.place + STATUS, EMPTY)]
 
@@ -292,7 +302,29 @@ def delete(words, request):
     row = file_of(words, request.name)
     if row is None:
         return refused(13, words)
+    if is_protected(row):
+        return refused(20, words)
     return done(words, row.place, emptied(row))
+
+
+def with_status(words, request, status):
+    """Protect and unprotect change the status word alone (document 02, Req 06)."""
+    if not is_name(request.name):
+        return refused(7, words)
+    if request.name == FILE_BAD:
+        return refused(19, words)
+    row = file_of(words, request.name)
+    if row is None:
+        return refused(13, words)
+    return done(words, row.place, [(row.place + STATUS, status)])
+
+
+def protect(words, request):
+    return with_status(words, request, PROTECTED)
+
+
+def unprotect(words, request):
+    return with_status(words, request, PERMANENT)
 
 
 def rename(words, request):
@@ -303,6 +335,8 @@ def rename(words, request):
     row = file_of(words, request.name)
     if row is None:
         return refused(13, words)
+    if is_protected(row):
+        return refused(20, words)
     if file_of(words, request.new_name):
         return refused(14, words)
     return done(words, row.place, zip(range(row.place + 1, row.place + 4), request.new_name))
@@ -325,13 +359,15 @@ def close(words, request):
         return refused(15, words)
     if not 0 <= request.final_length <= row.entry[LENGTH]:
         return refused(16, words)
+    if is_protected(given_way(words, row.entry[NAME])):
+        return refused(20, words)
     return done(words, row.place, closing(words, row, request.final_length))
 
 
 def closing(words, row, final_length):
     """The file is permanent, the next entry grows by the difference, and a permanent entry of the same name becomes empty, but no FILE.BAD."""
     following = row.place + slot_words(words) + LENGTH
-    old = None if tuple(row.entry[NAME]) == FILE_BAD else file_of(words, row.entry[NAME])
+    old = given_way(words, row.entry[NAME])
     return [
         (row.place + STATUS, PERMANENT),
         (row.place + LENGTH, final_length),
@@ -446,6 +482,8 @@ def enter(words, request):
         return refused(9, words)
     if open_on(words, channel_word(request)):
         return refused(10, words)
+    if is_protected(given_way(words, request.name)):
+        return refused(20, words)
     parts = {number: tidied(entries(words, number)) for number in chain(words)}
     areas = [area for number, found in parts.items() for area in areas_in(words, number, found)]
     long_enough = [area for area in areas if area.length >= max(request.size, 1)]
@@ -468,7 +506,16 @@ def entered(words, parts, areas, request):
 
 # -- What is asked from outside: any words, any V --
 
-SERVED = {LOOKUP: lookup, ENTER: enter, CLOSE: close, ABANDON: abandon, DELETE: delete, RENAME: rename}
+SERVED = {
+    LOOKUP: lookup,
+    ENTER: enter,
+    CLOSE: close,
+    ABANDON: abandon,
+    DELETE: delete,
+    RENAME: rename,
+    PROTECT: protect,
+    UNPROTECT: unprotect,
+}
 
 
 def serve(words, v, request):

@@ -1,6 +1,6 @@
 #!/usr/bin/env python3
 """The sample head files and their listings: document 01's volume after example 5's close at 12, a volume with files of all four ages
-(document 02, Req 02), and one with bad areas (Req 03).
+(document 02, Req 02), one with bad areas (Req 03), and one with protected files (Req 06).
 
     python3 model/sample.py
 
@@ -9,7 +9,7 @@ first come from the requests of rt11.py.
 """
 import pathlib
 
-from rt11 import CLOSE, EMPTY, ENTER, LENGTH, PERMANENT, TENTATIVE
+from rt11 import CLOSE, EMPTY, ENTER, LENGTH, PERMANENT, PROTECTED, TENTATIVE
 from rt11 import Request, first_data_block, fresh, head_file, listing, named, rendered, serve
 
 HOUSE = pathlib.Path(__file__).resolve().parent.parent
@@ -70,6 +70,18 @@ def bad():
     return rendered([1, 0, 1, 0, first], found), first + sum(entry[LENGTH] for entry in found)
 
 
+def protected():
+    """The factory's charge table and a bad area are protected; the listing shows P for them as for other files."""
+    found = [
+        [PROTECTED, *named("FACTRY.CHG"), 12, 0, 3_556],
+        [PERMANENT, *named("DAY.CHG"), 9, 0, 3_588],
+        [PROTECTED, *named("FILE.BAD"), 2, 0, 3_556],
+        [EMPTY, 0, 0, 0, 469, 0, 0],
+    ]
+    first = first_data_block(1)
+    return rendered([1, 0, 1, 0, first], found), first + sum(entry[LENGTH] for entry in found)
+
+
 def write(name, words, v):
     file = head_file(words, v)
     text = listing(file)
@@ -83,6 +95,7 @@ def main():
     write("day", *day())
     assert is_shown(write("ages", *ages()))
     assert write("bad", *bad()).count("FILE  .BAD") == 3
+    assert write("protected", *protected()).count("\nP ") == 3
     names = (LIST / "args").read_text().split()
     (LIST / "stdout").write_text("".join(listing((LIST / "data" / name).read_bytes()) for name in names))
 

@@ -19,6 +19,8 @@ fn serve(d: &mut [u16], e: &mut [u16], v: usize, r: &Request) -> (Answer, Answer
         Op::Abandon => (ours::abandon(d, v, r.job, r.channel), ordinary::abandon(e, v, r.job, r.channel)),
         Op::Delete => (ours::delete(d, v, r.name), ordinary::delete(e, v, r.name)),
         Op::Rename => (ours::rename(d, v, r.name, r.new_name), ordinary::rename(e, v, r.name, r.new_name)),
+        Op::Protect => (ours::protect(d, v, r.name), ordinary::protect(e, v, r.name)),
+        Op::Unprotect => (ours::unprotect(d, v, r.name), ordinary::unprotect(e, v, r.name)),
     }
 }
 
@@ -33,7 +35,9 @@ fn few(random: &mut Random) -> Name {
 
 fn request(random: &mut Random) -> Request {
     use Op::*;
-    const OPS: [Op; 12] = [Enter, Enter, Enter, Enter, Close, Close, Close, Close, Abandon, Delete, Rename, Lookup];
+    // more unprotects than protects, or closes would all be refused in the end
+    const OPS: [Op; 16] =
+        [Enter, Enter, Enter, Enter, Enter, Close, Close, Close, Close, Abandon, Delete, Rename, Lookup, Protect, Unprotect, Unprotect];
     const CHANNELS: [u16; 17] = [0, 1, 2, 3, 4, 5, 6, 7, 8, 9, 10, 11, 15, 16, 254, 255, 256];
     let size = match random.below(20) {
         0 => [-3, -2, 65535, 65536][random.below(4)],
@@ -60,10 +64,17 @@ fn same_listing(d: &[u16], v: usize, rooms: &mut [Box<[u8; ROOM]>; 2]) {
     assert!(rooms[0][..] == rooms[1][..], "the listings differ");
 }
 
-/// A few words changed, to what may or may not be a fault.
+/// A few words changed, to what may or may not be a fault; or status and name of one slot copied to another.
 fn damage(d: &[u16], random: &mut Random) -> Vec<u16> {
-    const WORDS: [u16; 12] = [0, 1, 2, 3, 256, 512, 1024, 2048, 63999, 64000, 65535, 14];
+    const WORDS: [u16; 14] = [0, 1, 2, 3, 256, 512, 1024, 2048, 33024, 33792, 63999, 64000, 65535, 14];
     let mut e = d.to_vec();
+    if random.below(6) == 0 {
+        let width = 7 + d[3] as usize / 2;
+        let mut slot = || 512 * random.below(d[2] as usize) + 5 + width * random.below(20);
+        let (from, to) = (slot(), slot());
+        e.copy_within(from..from + 4, to);
+        return e;
+    }
     for _ in 0..1 + random.below(3) {
         let near = [6, 60, 512, e.len()][random.below(4)];
         let at = (512 * random.below(e.len() / 512) + random.below(near)) % e.len();
@@ -93,7 +104,7 @@ fn some_file(d: &[u16], random: &mut Random) -> Option<usize> {
     let start = 512 * random.below(d[2] as usize) + 5;
     let count = (0..507 / width).position(|k| d[start + k * width] == 2048)?;
     let at = start + width * random.below(count.max(1));
-    [256, 1024].contains(&d[at]).then_some(at)
+    [256, 1024, 33792].contains(&d[at]).then_some(at)
 }
 
 /// A foreign hand makes a file, finished or open, a FILE.BAD, which no request could.
@@ -106,7 +117,7 @@ fn made_bad(d: &mut [u16], e: &mut [u16], random: &mut Random) {
 }
 
 /// One volume, started afresh, and some hundred requests. Answers its segments in use.
-fn same_volume(random: &mut Random, rooms: &mut [Box<[u8; ROOM]>; 2], seen: &mut [usize; 20], faults: &mut [usize; 7]) -> u16 {
+fn same_volume(random: &mut Random, rooms: &mut [Box<[u8; ROOM]>; 2], seen: &mut [usize; 21], faults: &mut [usize; 7]) -> u16 {
     let (n, extra) = (1 + random.below(5), [0, 0, 1, 10, 16][random.below(5)]);
     let span = [20, 200, 3000][random.below(3)];
     let v = 6 + 2 * n + random.below(span);
@@ -146,12 +157,12 @@ fn same_batch(d: &mut [u16], v: usize, random: &mut Random) {
 pub fn agree(volumes: usize) {
     let mut random = Random(1976);
     let mut rooms = [Box::new([b'#'; ROOM]), Box::new([b'#'; ROOM])];
-    let (mut seen, mut faults, mut splits) = ([0; 20], [0; 7], 0);
+    let (mut seen, mut faults, mut splits) = ([0; 21], [0; 7], 0);
     for _ in 0..volumes {
         splits += same_volume(&mut random, &mut rooms, &mut seen, &mut faults) as usize - 1;
     }
     let damaged: usize = faults.iter().sum();
     println!("The same answers and words: {} random requests, {splits} splits, {damaged} damaged directories.", REQUESTS * volumes);
     assert!(faults[1..].iter().all(|&k| k > 0), "a fault was never met: {faults:?}");
-    assert!([0, 7, 8, 9, 10, 11, 12, 13, 14, 15, 16, 19].iter().all(|&k| seen[k] > 0), "a number was never answered: {seen:?}");
+    assert!([0, 7, 8, 9, 10, 11, 12, 13, 14, 15, 16, 19, 20].iter().all(|&k| seen[k] > 0), "a number was never answered: {seen:?}");
 }

@@ -7,6 +7,8 @@ extern "C" {
     fn our_fresh(d: *mut u16, len: usize, v: usize, extra: usize, out: &mut Answer);
     fn our_lookup(d: *const u16, len: usize, v: usize, a: u16, b: u16, c: u16, out: &mut Answer);
     fn our_delete(d: *mut u16, len: usize, v: usize, a: u16, b: u16, c: u16, out: &mut Answer);
+    fn our_protect(d: *mut u16, len: usize, v: usize, a: u16, b: u16, c: u16, out: &mut Answer);
+    fn our_unprotect(d: *mut u16, len: usize, v: usize, a: u16, b: u16, c: u16, out: &mut Answer);
     fn our_rename(d: *mut u16, len: usize, v: usize, a: u16, b: u16, c: u16, x: u16, y: u16, z: u16, out: &mut Answer);
     fn our_enter(d: *mut u16, len: usize, v: usize, a: u16, b: u16, c: u16, n: i32, job: u16, channel: u16, date: u16, out: &mut Answer);
     fn our_close(d: *mut u16, len: usize, v: usize, job: u16, channel: u16, n: i32, out: &mut Answer);
@@ -43,6 +45,14 @@ pub fn lookup(d: &[u16], v: usize, n: Name) -> Answer {
 
 pub fn delete(d: &mut [u16], v: usize, n: Name) -> Answer {
     answer(|out| unsafe { our_delete(d.as_mut_ptr(), d.len(), v, n.first, n.second, n.extension, out) })
+}
+
+pub fn protect(d: &mut [u16], v: usize, n: Name) -> Answer {
+    answer(|out| unsafe { our_protect(d.as_mut_ptr(), d.len(), v, n.first, n.second, n.extension, out) })
+}
+
+pub fn unprotect(d: &mut [u16], v: usize, n: Name) -> Answer {
+    answer(|out| unsafe { our_unprotect(d.as_mut_ptr(), d.len(), v, n.first, n.second, n.extension, out) })
 }
 
 pub fn rename(d: &mut [u16], v: usize, n: Name, m: Name) -> Answer {

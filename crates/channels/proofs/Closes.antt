@@ -2,6 +2,7 @@
 -- lies in it, and the sum fits a word (law `closable`); the four writes and the old file's one are made one after the other.
 use Prim.Native.Nat.{ℕ, _+_, _-_, _≤_, _<_}
 use mathlib.Core.Path.{_≡_, refl, sym, ap, _∙_}
+use mathlib.Core.Bool.{true, false}
 use mathlib.Core.List.{List, [], _∷_, _++_}
 use mathlib.Core.Option.{Option, none, some}
 use native.Mathlib.Omega.{arith}
@@ -10,8 +11,8 @@ use Rattle.meaning.specs.declared.Name.{Name}
 use Rattle.meaning.specs.Kinds.{permanentStatus}
 use Rattle.meaning.specs.Words.{Row, slotWords, statusWord, lengthWord, channelWord, nameOf, blocks, dateOf}
 use Rattle.meaning.specs.Sound.{fault}
-use Rattle.meaning.specs.Answers.{Write, put, write, openOn}
-use Rattle.meaning.specs.Requests.{emptying, replacing, givesWay, closing}
+use Rattle.meaning.specs.Answers.{granted, refuse, success, Write, put, write, openOn}
+use Rattle.meaning.specs.Requests.{emptying, replacing, givesWay, overProtected, closing}
 use Rattle.meaning.specs.declared.Key.the-variants.{Open}
 use Rattle.meaning.specs.Keys.{holds}
 use Rattle.segment.specs.declared.finder.Place.{Place}
@@ -20,7 +21,7 @@ use Rattle.segment.specs.declared.finder.Found.the-variants.{At, Nothing}
 use Rattle.segment.specs.Finder.{foundOf, Inside}
 use Rattle.walks.proofs.Words.{word}
 use Rattle.rules.proofs.Grown.{closable, row-ends}
-use Rattle.channels.specs.Closing.{replacingAt, Opened}
+use Rattle.channels.specs.Closing.{replacingAt, Opened, closedAt, closedOn}
 
 -- writes one after the other
 pub write-append : (d : List ℕ) (xs ys : List Write) → write d (xs ++ ys) ≡ write (write d xs) ys
@@ -108,6 +109,18 @@ closed-words d p r n f q e =
     ∷ put (p .at + slotWords d) lengthWord (getD d (p .at + slotWords d + lengthWord) 0 + (blocks (r .entry) - n))
     ∷ [])
     (replacing o)))
+
+-- the close at a place, refused or carried out
+pub closed-over : (d : List ℕ) (x n : ℕ) (p : Place) (o : Opened d x p) → overProtected d (nameOf (o .row .entry)) ≡ true
+    → closedOn d x n ≡ refuse 20 d
+unfolding closedOn closedAt
+closed-over d x n p o u = rw (o .is, u)
+
+pub closed-on : (d : List ℕ) (x n : ℕ) (p : Place) (o : Opened d x p) → Ready d p (o .row)
+    → overProtected d (nameOf (o .row .entry)) ≡ false
+    → closedOn d x n ≡ record { answer = granted (p .first) n (p .date); words = write d (closing d (o .row) n) }
+unfolding closedOn closedAt success
+closed-on d x n p o q u = rw (o .is, u, q .first, q .date)
 
 -- a slot inside the directory leaves room for an entry's seven words
 pub inside-less : (f : Found) (w n m : ℕ) → 7 ≤ w → n ≡ m → Inside f w n → Inside f 7 m

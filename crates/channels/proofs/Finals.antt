@@ -9,10 +9,10 @@ use lib.IntN.{ℤ, pos, negsuc}
 use lib.Signed.{ltZ}
 use lib.Dec.{leb}
 use borrow.Author.Tests.{ltb-true, leb-true, le-leb, lt-leb}
-use Rattle.meaning.specs.Words.{Row, blocks, dateOf}
-use Rattle.meaning.specs.Answers.{refuse, success, write}
-use Rattle.meaning.specs.Requests.{finalLength, closing, closed}
-use Rattle.channels.specs.Closing.{finalUnder, finalBy}
+use Rattle.meaning.specs.Words.{Row, blocks}
+use Rattle.meaning.specs.Answers.{refuse}
+use Rattle.meaning.specs.Requests.{finalLength, closed}
+use Rattle.channels.specs.Closing.{finalUnder, finalBy, closedAt}
 use Rattle.channels.specs.declared.Final.the-variants.{Length, Wrong}
 
 pub final-below : (z : ℤ) (l : ℕ) → ltZ z (pos 0) ≡ true → Wrong ≡ finalBy z l
@@ -31,12 +31,13 @@ final-within n l h = rw (le-leb n l h)
 -- close, by what the final length came to
 module _ (d : List ℕ) (r : Row) where
   by-option : (o : Option ℕ) (l n : ℕ) → blocks (r .entry) ≡ l → finalUnder o l ≡ Length n
-      → closed d r o ≡ success (r .first) n (dateOf (r .entry)) (write d (closing d r n))
+      → closed d r o ≡ closedAt d r n
+  unfolding closedAt
   by-option none l n e h = absurd (let z : _≡_ {A = ℕ} 0 1 = cc in omega arith)
   by-option (some m) l n e h = go (leb m l) refl h
     where
       go : (t : Bool) → leb m l ≡ t → cond t (Length m) Wrong ≡ Length n
-          → closed d r (some m) ≡ success (r .first) n (dateOf (r .entry)) (write d (closing d r n))
+          → closed d r (some m) ≡ closedAt d r n
       go true t h = let q : m ≡ n = cc in rw (e, t, q)
       go false t h = absurd (let z : _≡_ {A = ℕ} 0 1 = cc in omega arith)
 
@@ -49,7 +50,7 @@ module _ (d : List ℕ) (r : Row) where
       go false t h = rw (e, t)
 
   pub closed-length : (z : ℤ) (l n : ℕ) → blocks (r .entry) ≡ l → finalBy z l ≡ Length n
-      → closed d r (finalLength z) ≡ success (r .first) n (dateOf (r .entry)) (write d (closing d r n))
+      → closed d r (finalLength z) ≡ closedAt d r n
   unfolding finalBy
   closed-length z l n e h = by-option (finalLength z) l n e h
 

@@ -11,15 +11,16 @@ use lib.Dec.{eqb, leb}
 use borrow.Author.Tests.{eqb-true, leb-true}
 use Rattle.bools.proofs.Bools.{both, either}
 use Rattle.meaning.specs.declared.Key.the-variants.{Open}
+use Rattle.meaning.specs.Kinds.{emptyStatus}
 use Rattle.meaning.specs.Words.{rows}
 use Rattle.meaning.specs.Keys.{holds}
 use Rattle.meaning.specs.Sound.{fault}
 use Rattle.meaning.specs.Answers.{refuse, find, openOn}
-use Rattle.meaning.specs.Requests.{channelLimit, goodChannel, wordOf, abandon, close}
+use Rattle.meaning.specs.Requests.{restating, emptying, channelLimit, goodChannel, wordOf, abandon, close}
 use Rattle.segment.specs.declared.finder.Place.{Place}
 use Rattle.segment.specs.declared.finder.Found.the-variants.{At, Nothing}
 use Rattle.segment.specs.Finder.{foundOf}
-use Rattle.find.specs.Find.{emptied}
+use Rattle.find.specs.Find.{restated}
 use Rattle.find.proofs.Behind.{open-found, open-none}
 use Rattle.channels.specs.declared.Final.the-variants.{Length, Wrong}
 use Rattle.channels.specs.Closing.{finalBy, closedOn}
@@ -43,8 +44,8 @@ module _ (v : ℕ) (d : List ℕ) (h : fault v d ≡ 0) (job channel : ℕ) wher
   unfolding abandon
   abandon-bad g = rw (h, g)
 
-  pub abandon-good : goodChannel job channel ≡ true → abandon v d job channel ≡ emptied d (Open (wordOf job channel)) 15
-  unfolding abandon emptied openOn
+  pub abandon-good : goodChannel job channel ≡ true → abandon v d job channel ≡ restated d (Open (wordOf job channel)) 15 emptyStatus
+  unfolding abandon restated openOn emptying restating
   abandon-good g = rw (h, g)
 
   pub close-bad : (final : ℤ) → goodChannel job channel ≡ false → close v d job channel final ≡ refuse 8 d

@@ -1,7 +1,7 @@
 -- What the routines behind close promise: the final length, the old file, and the entry closed at a place.
 use Prim.Native.Nat.{ℕ}
 use mathlib.Core.Path.{_≡_}
-use mathlib.Core.Bool.{cond}
+use mathlib.Core.Bool.{cond, not}
 use mathlib.Core.List.{List, [], _∷_}
 use mathlib.Core.Option.{Option, none, some}
 use lib.ListN.{length}
@@ -9,9 +9,9 @@ use lib.IntN.{ℤ}
 use lib.Dec.{leb}
 use Rattle.meaning.specs.declared.Name.{Name}
 use Rattle.meaning.specs.Kinds.{emptyStatus}
-use Rattle.meaning.specs.Words.{Row, slotWords, statusWord, dateOf}
-use Rattle.meaning.specs.Answers.{Outcome, success, onRow, Write, put, write, openOn}
-use Rattle.meaning.specs.Requests.{givesWay, finalLength, closing}
+use Rattle.meaning.specs.Words.{Row, slotWords, statusWord, nameOf, dateOf}
+use Rattle.meaning.specs.Answers.{Outcome, success, unless, onRow, Write, put, write, openOn}
+use Rattle.meaning.specs.Requests.{givesWay, overProtected, finalLength, closing}
 use Rattle.segment.specs.declared.finder.Place.{Place}
 use Rattle.segment.specs.declared.finder.Found.{Found}
 use Rattle.segment.specs.declared.finder.Found.the-variants.{At, Nothing}
@@ -43,6 +43,11 @@ pub record Opened (d : List ℕ) (word : ℕ) (p : Place) : Type 0 where
   pub is : openOn d word ≡ some row
   pub place : placeOf row ≡ p
 
--- close, once nothing can refuse it any more
+-- close, once nothing but a protected file of the same name can refuse it
+unfoldable pub closedAt : List ℕ → Row → ℕ → Outcome
+closedAt d r n =
+    unless 20 (not (overProtected d (nameOf (r .entry)))) d λ _.
+    success (r .first) n (dateOf (r .entry)) (write d (closing d r n))
+
 unfoldable pub closedOn : List ℕ → ℕ → ℕ → Outcome
-closedOn d word n = onRow 15 (openOn d word) d λ r. success (r .first) n (dateOf (r .entry)) (write d (closing d r n))
+closedOn d word n = onRow 15 (openOn d word) d λ r. closedAt d r n

@@ -1,11 +1,13 @@
 // The requests on an open file, by its channel, on a directory known to be sound: abandon and close. Each is refused by its number, from 8
 // on and in the order of the numbers, or carried out. A refusal answers zeros and changes no word.
-use edits::change::make_empty;
+use edits::change::give_status;
 use edits::change::make_permanent;
 use find::find_entry;
-use find::found::empty_found;
+use find::found::is_protected;
+use find::found::restate_found;
 use meaning::Answer;
 use meaning::CHANNEL_LIMIT;
+use meaning::EMPTY;
 use meaning::Key;
 use meaning::Name;
 use meaning::is_spared;
@@ -50,7 +52,7 @@ pub fn abandon_sound(d: &mut [u16], v: usize, job: u16, channel: u16) -> Answer
     if !is_channel(job, channel) {
         return refused(8);
     }
-    empty_found(d, v, Key::Open(job * 256 + channel), 15)
+    restate_found(d, v, Key::Open(job * 256 + channel), 15, EMPTY)
 }
 
 // A final length of 0 up to the tentative length.
@@ -68,7 +70,7 @@ fn final_of(size: i32, longest: u16) -> Final
 }
 
 // The file that gives way to a new one of this name. A FILE.BAD gives way to none.
-fn find_old(d: &[u16], name: Name) -> Found
+pub fn find_old(d: &[u16], name: Name) -> Found
     requires { ⌜ Chained (now d) ⌝ }
     ensures { λ r. ⌜ OldFile r (now (d .entry)) name ⌝ }
 {
@@ -86,13 +88,14 @@ fn empty_old(d: &mut [u16], old: Found)
     match old {
         Found::At(place) => {
             let at = place.at;
-            make_empty(d, at);
+            give_status(d, at, EMPTY);
         }
         Found::Nothing => {}
     }
 }
 
-// The tentative entry at a place becomes a file of this length. A file of its name is looked for before anything is written.
+// The tentative entry at a place becomes a file of this length, unless a protected file would have to give way to it. A file of its name is
+// looked for before anything is written.
 fn close_at(d: &mut [u16], v: usize, word: u16, place: Place, size: u16) -> Answer
     requires { ⌜ (fault v (now d) ≡ 0) × Opened (now d) word place × (size ≤ place .length) ⌝ }
     ensures { λ r. ⌜ Meets r (now (d .exit)) (closedOn (now (d .entry)) word size) ⌝ }
@@ -102,6 +105,9 @@ fn close_at(d: &mut [u16], v: usize, word: u16, place: Place, size: u16) -> Answ
     let next = at + width;
     let name = name_at(d, at, width);
     let old = find_old(d, name);
+    if is_protected(old) {
+        return refused(20);
+    }
     make_permanent(d, at, next, size);
     empty_old(d, old);
     succeeded(place.first as u16, size, place.date)

@@ -90,7 +90,7 @@ pub(crate) fn read_words(words: &mut [u16], state: State) -> State
 
 // Whether a number asks for a request.
 pub(crate) fn is_request(number: u16) -> bool {
-    1 <= number && number <= 6
+    1 <= number && number <= 8
 }
 
 // Which one.
@@ -101,7 +101,9 @@ fn op_of(number: u16) -> Op {
         3 => Op::Close,
         4 => Op::Abandon,
         5 => Op::Delete,
-        _ => Op::Rename,
+        6 => Op::Rename,
+        7 => Op::Protect,
+        _ => Op::Unprotect,
     }
 }
 

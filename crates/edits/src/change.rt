@@ -1,21 +1,21 @@
-// Delete, abandon, rename and close, of an entry whose place is known: `at` is the place of its first word in the directory.
-use meaning::EMPTY;
+// Delete, abandon, protect, unprotect, rename and close, of an entry whose place is known: `at` is the place of its first word in the
+// directory.
 use meaning::Name;
 use meaning::PERMANENT;
 ghost use mathlib.Core.Path.{_≡_};
 ghost use mathlib.Core.List.{[], _∷_};
 ghost use Prim.Native.Nat.{_+_, _-_, _≤_, _<_};
 ghost use lib.ListN.{length, getD};
-ghost use Rattle.meaning.specs.Kinds.{emptyStatus, permanentStatus};
+ghost use Rattle.meaning.specs.Kinds.{permanentStatus};
 ghost use Rattle.meaning.specs.Words.{statusWord, nameWord, name2Word, extensionWord, lengthWord, channelWord};
 ghost use Rattle.meaning.specs.Answers.{put, write};
 
-// The entry becomes empty: its status word alone.
-pub fn make_empty(words: &mut [u16], at: usize)
+// The entry gets another status, that of an empty entry, a protected or an unprotected one: its status word alone.
+pub fn give_status(words: &mut [u16], at: usize, status: u16)
     requires { ⌜ at < length (now words) ⌝ }
-    ensures { λ _. ⌜ now (words .exit) ≡ write (now (words .entry)) (put at statusWord emptyStatus ∷ []) ⌝ }
+    ensures { λ _. ⌜ now (words .exit) ≡ write (now (words .entry)) (put at statusWord status ∷ []) ⌝ }
 {
-    words[at] = EMPTY;
+    words[at] = status;
 }
 
 // The entry gets another name: its three name words.

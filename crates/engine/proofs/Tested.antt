@@ -8,17 +8,18 @@ use mathlib.Core.Option.{Option, none, some}
 use lib.IntN.{ℤ}
 use Rattle.dates.specs.Dates.{goodDate}
 use Rattle.meaning.specs.declared.Op.{Op}
-use Rattle.meaning.specs.declared.Op.the-variants.{Lookup, Enter, Close, Abandon, Delete, Rename}
+use Rattle.meaning.specs.declared.Op.the-variants.{Lookup, Enter, Close, Abandon, Delete, Rename, Protect, Unprotect}
 use Rattle.meaning.specs.declared.Name.{Name}
 use Rattle.meaning.specs.declared.Request.{Request}
 use Rattle.meaning.specs.Words.{Row}
 use Rattle.meaning.specs.Keys.{spared}
 use Rattle.meaning.specs.Sound.{fault}
 use Rattle.meaning.specs.Answers.{Outcome, refuse, success, passed, unless, onRow, isNone, fileOf, openOn}
-use Rattle.meaning.specs.Requests.{legal, goodChannel, wordOf, successWith, lookup, delete, abandon, rename, close}
-use Rattle.meaning.specs.Enter.{sizeOf, goodSize, enter}
+use Rattle.meaning.specs.Requests.{legal, goodChannel, wordOf, successWith, lookup, delete, restate, protect, unprotect, abandon, rename, overProtected, close}
+use Rattle.meaning.specs.Enter.{Size, sizeOf, goodSize, enter}
 use Rattle.meaning.specs.Batch.{serveBy, serve}
 use Rattle.enter.specs.Entering.{entering}
+use Rattle.engine.specs.Named.{enteringNamed}
 
 -- an enter that is asked for, on a sound directory
 pub record Call : Type 0 where
@@ -72,9 +73,20 @@ module _ (q : Call) where
   in-use p e = rw (q .sound, p .named .lawful, p .named .plain, p .channelled, p .sized, p .dated, e)
 
   pub let-in : Passed q → openOn (q .d) (wordOf (q .job) (q .channel)) ≡ none
-      → outcome q ≡ entering (q .d) (q .name) (sizeOf (q .size)) (wordOf (q .job) (q .channel)) (q .date)
-  unfolding enter entering
+      → outcome q ≡ enteringNamed (q .d) (q .name) (sizeOf (q .size)) (wordOf (q .job) (q .channel)) (q .date)
+  unfolding enter enteringNamed entering
   let-in p e = rw (q .sound, p .named .lawful, p .named .plain, p .channelled, p .sized, p .dated, e)
+
+-- a protected file of the name refuses it; else what is left is the room
+pub name-protected : (d : List ℕ) (name : Name) (size : Size) (x date : ℕ) → overProtected d name ≡ true
+    → enteringNamed d name size x date ≡ refuse 20 d
+unfolding enteringNamed
+name-protected d name size x date e = rw e
+
+pub name-free : (d : List ℕ) (name : Name) (size : Size) (x date : ℕ) → overProtected d name ≡ false
+    → enteringNamed d name size x date ≡ entering d name size x date
+unfolding enteringNamed
+name-free d name size x date e = rw e
 
 -- a lookup changes nothing
 pub looked-up : (v : ℕ) (d : List ℕ) (n : Name) → lookup v d n .words ≡ d
@@ -94,13 +106,15 @@ serves v d q op e = rw e
 
 -- a fault refuses every request
 refused-by : (op : Op) (v : ℕ) (d : List ℕ) (q : Request) (n : ℕ) → fault v d ≡ suc n → serveBy op v d q ≡ refuse (suc n) d
-unfolding lookup enter close abandon delete rename
+unfolding lookup enter close abandon delete rename protect unprotect restate
 refused-by Lookup v d q n e = rw e
 refused-by Enter v d q n e = rw e
 refused-by Close v d q n e = rw e
 refused-by Abandon v d q n e = rw e
 refused-by Delete v d q n e = rw e
 refused-by Rename v d q n e = rw e
+refused-by Protect v d q n e = rw e
+refused-by Unprotect v d q n e = rw e
 
 pub faulty : (v : ℕ) (d : List ℕ) (q : Request) (n : ℕ) → n ≡ fault v d → (n ≡ 0 → ⊥) → serve v d q ≡ refuse n d
 unfolding serve

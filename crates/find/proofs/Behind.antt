@@ -2,16 +2,15 @@
 -- the cases of what was found.
 use Prim.Native.Nat.{ℕ, _≤_}
 use native.Mathlib.Omega.{arith}
-use mathlib.Core.Path.{_≡_, refl, ap}
-use mathlib.Core.Bool.{false}
+use mathlib.Core.Path.{_≡_, refl, sym, ap, _∙_}
+use mathlib.Core.Bool.{Bool, false}
 use mathlib.Core.List.{List, [], _∷_}
 use mathlib.Core.Option.{Option, none, some}
 use Rattle.meaning.specs.declared.Answer.{Answer}
-use Rattle.meaning.specs.Kinds.{emptyStatus}
-use Rattle.meaning.specs.Words.{statusWord, Row, rows}
+use Rattle.meaning.specs.Words.{statusWord, protected, Row, rows}
 use Rattle.meaning.specs.Sound.{fault}
-use Rattle.meaning.specs.Answers.{refuse, success, onRow, isNone, find, fileOf, openOn, put, write}
-use Rattle.meaning.specs.Requests.{successWith, emptying}
+use Rattle.meaning.specs.Answers.{refuse, success, onRow, isNone, isProtected, find, fileOf, openOn, put, write}
+use Rattle.meaning.specs.Requests.{successWith, restating, givesWay, overProtected}
 use Rattle.meaning.specs.declared.Name.{Name}
 use Rattle.meaning.specs.declared.Key.{Key}
 use Rattle.meaning.specs.declared.Key.the-variants.{File, Open}
@@ -21,7 +20,7 @@ use Rattle.segment.specs.declared.finder.Found.{Found}
 use Rattle.segment.specs.declared.finder.Found.the-variants.{At, Nothing}
 use Rattle.segment.specs.Finder.{placeOf, foundOf}
 use Rattle.rules.proofs.Grown.{row-ends}
-use Rattle.find.specs.Find.{answerAt, emptied}
+use Rattle.find.specs.Find.{protectedAt, answerAt, restated}
 
 -- a row behind a place that was found
 pub record Behind (o : Option Row) (p : Place) : Type 0 where
@@ -65,19 +64,30 @@ pub open-none : (d : List ℕ) (x : ℕ) → foundOf (find (holds (Open x)) (row
 unfolding openOn
 open-none d x e = found-none (find (holds (Open x)) (rows d)) e
 
--- delete and abandon, by what was found
-pub emptied-at : (d : List ℕ) (key : Key) (missing : ℕ) (p : Place) → foundOf (find (holds key) (rows d)) ≡ At p
-    → emptied d key missing ≡ record { answer = answerAt p; words = write d (put (p .at) statusWord emptyStatus ∷ []) }
-unfolding emptied successWith success emptying
-emptied-at d key missing p e = go (find (holds key) (rows d)) e
+-- a protected file was found just where the row behind it is one
+protected-found : (o : Option Row) (f : Found) → f ≡ foundOf o → protectedAt f ≡ isProtected o
+unfolding protected
+protected-found none f e = rw e
+protected-found (some r) f e = rw e
+
+-- so a new file would come over a protected one just where that is found in its place
+pub over-protected : (d : List ℕ) (n : Name) (f : Found) (t : Bool) → f ≡ foundOf (givesWay d n) → t ≡ protectedAt f → overProtected d n ≡ t
+unfolding overProtected
+over-protected d n f t e g = sym (g ∙ protected-found (givesWay d n) f e)
+
+-- abandon, protect and unprotect, by what was found
+pub restated-at : (d : List ℕ) (key : Key) (missing status : ℕ) (p : Place) → foundOf (find (holds key) (rows d)) ≡ At p
+    → restated d key missing status ≡ record { answer = answerAt p; words = write d (put (p .at) statusWord status ∷ []) }
+unfolding restated successWith success restating
+restated-at d key missing status p e = go (find (holds key) (rows d)) e
   where
     go : (o : Option Row) → foundOf o ≡ At p
-        → onRow missing o d (λ r. successWith r (write d (emptying r)))
-        ≡ record { answer = answerAt p; words = write d (put (p .at) statusWord emptyStatus ∷ []) }
+        → onRow missing o d (λ r. successWith r (write d (restating r status)))
+        ≡ record { answer = answerAt p; words = write d (put (p .at) statusWord status ∷ []) }
     go none q = absurd (let z : _≡_ {A = ℕ} 0 1 = cc in omega arith)
     go (some r) q = let l : placeOf r ≡ p = cc in rw (← l)
 
-pub emptied-none : (d : List ℕ) (key : Key) (missing : ℕ) → foundOf (find (holds key) (rows d)) ≡ Nothing
-    → emptied d key missing ≡ refuse missing d
-unfolding emptied
-emptied-none d key missing e = rw (found-none (find (holds key) (rows d)) e)
+pub restated-none : (d : List ℕ) (key : Key) (missing status : ℕ) → foundOf (find (holds key) (rows d)) ≡ Nothing
+    → restated d key missing status ≡ refuse missing d
+unfolding restated
+restated-none d key missing status e = rw (found-none (find (holds key) (rows d)) e)

@@ -1,17 +1,28 @@
-// What requests do with an entry that was looked for: answer it, or make it empty.
+// What requests do with an entry that was looked for: ask whether it is protected, answer it, or give it another status.
 use crate::find_entry;
-use edits::change::make_empty;
+use edits::change::give_status;
 use meaning::Answer;
 use meaning::Key;
 use meaning::refused;
 use meaning::succeeded;
 use segment::finder::Found;
 use segment::finder::Place;
+use segment::kinds;
 ghost use mathlib.Core.Path.{_≡_};
 ghost use Prim.Native.Nat.{_≤_};
 ghost use Rattle.meaning.specs.Sound.{fault};
 ghost use Rattle.meaning.specs.Answers.{Meets};
-ghost use Rattle.find.specs.Find.{answerAt, emptied};
+ghost use Rattle.find.specs.Find.{protectedAt, answerAt, restated};
+
+// Whether a protected file was found.
+pub fn is_protected(found: Found) -> bool
+    ensures { λ r. ⌜ r ≡ protectedAt found ⌝ }
+{
+    match found {
+        Found::At(place) => kinds::is_protected(place.status),
+        Found::Nothing => false,
+    }
+}
 
 // Success answers the entry at a place; in a sound directory its first block fits a word.
 pub fn answered(place: Place) -> Answer
@@ -21,16 +32,16 @@ pub fn answered(place: Place) -> Answer
     succeeded(place.first as u16, place.length, place.date)
 }
 
-// The entry that is looked for becomes empty; where there is none, the number of that refusal.
-pub fn empty_found(d: &mut [u16], v: usize, key: Key, missing: u16) -> Answer
+// The entry that is looked for gets another status; where there is none, the number of that refusal.
+pub fn restate_found(d: &mut [u16], v: usize, key: Key, missing: u16, status: u16) -> Answer
     requires { ⌜ fault v (now d) ≡ 0 ⌝ }
-    ensures { λ r. ⌜ Meets r (now (d .exit)) (emptied (now (d .entry)) key missing) ⌝ }
+    ensures { λ r. ⌜ Meets r (now (d .exit)) (restated (now (d .entry)) key missing status) ⌝ }
 {
     let found = find_entry(d, key);
     match found {
         Found::At(place) => {
             let at = place.at;
-            make_empty(d, at);
+            give_status(d, at, status);
             answered(place)
         }
         Found::Nothing => refused(missing),

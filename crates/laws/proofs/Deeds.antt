@@ -1,18 +1,24 @@
 -- The writes of each request are good for the keys that it names, whether it is refused or not. A plan is a refusal, without
--- writes, or a record says what the request has found; then the entry found is emptied, renamed or closed (OneEntry, Closing).
-use Prim.Native.Nat.{ℕ, suc, _≤_}
+-- writes, or a record says what the request has found; then the entry found is emptied, renamed, given another status or closed
+-- (OneEntry, Closing).
+use Prim.Native.Nat.{ℕ, suc, _+_, _≤_}
 use mathlib.Core.Path.{_≡_, refl, sym, ap, _∙_, subst}
 use mathlib.Core.Logic.{_⊎_, inl, inr, ⊎-elim}
 use mathlib.Core.Bool.{Bool, true, false, cond, _&&_, _||_, true≢false}
+use native.Mathlib.Omega.{arith}
+use lib.ListN.{getD, set}
+use lib.Seq.{set-getD}
 use mathlib.Core.List.{List}
 use mathlib.Core.Option.{Option, none, some, Option·none-ne-some}
 use lib.Dec.{leb}
 use borrow.Author.Tests.{leb-true, not-true}
 use Rattle.bools.proofs.Bools.{both, neither}
 use Rattle.meaning.specs.declared.Name.{Name}
-use Rattle.meaning.specs.Words.{nameOf, blocks, Row, rows}
-use Rattle.meaning.specs.Answers.{find, fileOf, openOn}
-use Rattle.meaning.specs.Requests.{legal, emptying, goodChannel, wordOf, renaming, givesWay, closing}
+use Rattle.meaning.specs.declared.Kind.the-variants.{Permanent}
+use Rattle.meaning.specs.Kinds.{kindOf}
+use Rattle.meaning.specs.Words.{slotWords, Entry, statusWord, nameOf, protected, blocks, Row, rows}
+use Rattle.meaning.specs.Answers.{find, fileOf, openOn, write}
+use Rattle.meaning.specs.Requests.{legal, emptying, restating, goodChannel, wordOf, renaming, givesWay, overProtected, closing}
 use Rattle.meaning.specs.declared.Key.{Key}
 use Rattle.meaning.specs.declared.Key.the-variants.{File, Open}
 use Rattle.meaning.specs.Keys.{holds, spared, once}
@@ -20,13 +26,14 @@ use Rattle.laws.specs.Order.{OnOpen}
 use Rattle.walks.specs.Lists.{All}
 use Rattle.walks.proofs.Alls.{all-map}
 use Rattle.rules.proofs.Keys.{once-file, once-open, no-old, old-file}
+use Rattle.rules.proofs.Grid.{word-at}
 use Rattle.rules.proofs.Soundness.{Sound}
 use Rattle.rules.proofs.Rows.{Stand, standing, few-rows, find-some, Fails, find-none, Only, find-only}
 use Rattle.laws.proofs.Entries.{legal-short}
-use Rattle.laws.proofs.Good.{Good, One, Two, Gone, Made, nothing-good}
-use Rattle.laws.proofs.OneEntry.{clearing, giving}
+use Rattle.laws.proofs.Good.{Good, One, Two, Gone, Made, Stated, nothing-good}
+use Rattle.laws.proofs.OneEntry.{clearing, stating, giving}
 use Rattle.laws.proofs.Closing.{Replaced, making}
-use Rattle.laws.proofs.Plans.{Plan, refused, done, deletePlan, abandonPlan, renamePlan, closePlan}
+use Rattle.laws.proofs.Plans.{Plan, refused, done, deletePlan, restatePlan, abandonPlan, renamePlan, closePlan}
 
 -- what is found by a key
 pub file-key : (d : List ℕ) (n : Name) → fileOf d n ≡ find (holds (File n)) (rows d)
@@ -74,6 +81,22 @@ module _ (v : ℕ) (d : List ℕ) (s : Sound v d) where
 
   pub open-gone : (x : ℕ) (r : Row) → openOn d x ≡ some r → Gone d (Open x) (emptying r)
   open-gone x r e = emptied (Open x) (once-open x) r (sym (open-key d x) ∙ e)
+
+  pub file-stated : (name : Name) → once (File name) ≡ true → (r : Row) → fileOf d name ≡ some r → legal name ≡ true
+      → (status : ℕ) → kindOf status ≡ Permanent → Stated d r (File name) (set (r .entry) statusWord status) (restating r status)
+  file-stated name o r e l status perm =
+      let f = found-by v d s (File name) r (sym (file-key d name) ∙ e) in
+      stating d st r (f .stand) name o (f .has) (f .only o) (legal-short name l) status perm
+
+  -- a status that the file has already changes nothing
+  pub stated-already : (name : Name) (r : Row) → fileOf d name ≡ some r → (status : ℕ) → getD (r .entry) statusWord 0 ≡ status
+      → write d (restating r status) ≡ d
+  unfolding restating write
+  stated-already name r e status g =
+      let f = found-by v d s (File name) r (sym (file-key d name) ∙ e) in
+      let x : getD d (r .at + statusWord) 0 ≡ status =
+      sym (word-at d (slotWords d) (r .at) statusWord (omega arith)) ∙ ap (λ (z : Entry). getD z statusWord 0) (sym (f .stand .is)) ∙ g in
+      rw (← x) (set-getD d (r .at + statusWord) 0)
 
   pub name-made : (old new : Name) → once (File old) ≡ true → (r : Row) → fileOf d old ≡ some r → fileOf d new ≡ none
       → legal new ≡ true → Made d r (File old) (File new) (blocks (r .entry)) (renaming r new)
@@ -124,20 +147,45 @@ pub record Refused (p : Plan) : Type 0 where
   pub less : ℕ
   pub plan : p ≡ refused (suc less)
 
--- (a file that is deleted or renamed has a name that may stand once)
+-- (a file that is deleted or renamed has a name that may stand once, and is not protected)
 pub record DeleteDone (d : List ℕ) (name : Name) : Type 0 where
   pub row : Row
   pub legal : legal name ≡ true
   pub single : once (File name) ≡ true
   pub old : fileOf d name ≡ some row
+  pub free : protected (row .entry) ≡ false
   pub plan : deletePlan d name ≡ done row (blocks (row .entry)) (emptying row)
 
 pub delete-view : (d : List ℕ) (name : Name) → Refused (deletePlan d name) ⊎ DeleteDone d name
 unfolding deletePlan
 delete-view d name = go (legal name) refl (spared name) refl (fileOf d name) refl
   where
+    at : legal name ≡ true → spared name ≡ false → (r : Row) → fileOf d name ≡ some r → (z : Bool) → protected (r .entry) ≡ z
+        → Refused (deletePlan d name) ⊎ DeleteDone d name
+    at i j r e true g = inl (record { less = 19; plan = rw (i, j, e, g) })
+    at i j r e false g =
+        inr (record { row = r; legal = i; single = once-file name j; old = e; free = g; plan = rw (i, j, e, g) })
+
     go : (x : Bool) → legal name ≡ x → (y : Bool) → spared name ≡ y → (o : Option Row) → fileOf d name ≡ o
         → Refused (deletePlan d name) ⊎ DeleteDone d name
+    go false i y j o e = inl (record { less = 6; plan = rw i })
+    go true i true j o e = inl (record { less = 18; plan = rw (i, j) })
+    go true i false j none e = inl (record { less = 12; plan = rw (i, j, e) })
+    go true i false j (some r) e = at i j r e (protected (r .entry)) refl
+
+pub record RestateDone (d : List ℕ) (name : Name) (status : ℕ) : Type 0 where
+  pub row : Row
+  pub legal : legal name ≡ true
+  pub single : once (File name) ≡ true
+  pub old : fileOf d name ≡ some row
+  pub plan : restatePlan d name status ≡ done row (blocks (row .entry)) (restating row status)
+
+pub restate-view : (d : List ℕ) (name : Name) (status : ℕ) → Refused (restatePlan d name status) ⊎ RestateDone d name status
+unfolding restatePlan
+restate-view d name status = go (legal name) refl (spared name) refl (fileOf d name) refl
+  where
+    go : (x : Bool) → legal name ≡ x → (y : Bool) → spared name ≡ y → (o : Option Row) → fileOf d name ≡ o
+        → Refused (restatePlan d name status) ⊎ RestateDone d name status
     go false i y j o e = inl (record { less = 6; plan = rw i })
     go true i true j o e = inl (record { less = 18; plan = rw (i, j) })
     go true i false j none e = inl (record { less = 12; plan = rw (i, j, e) })
@@ -166,21 +214,19 @@ pub record RenameDone (d : List ℕ) (old new : Name) : Type 0 where
   pub single-old : once (File old) ≡ true
   pub single-new : once (File new) ≡ true
   pub was : fileOf d old ≡ some row
+  pub free : protected (row .entry) ≡ false
   pub none-new : fileOf d new ≡ none
   pub plan : renamePlan d old new ≡ done row (blocks (row .entry)) (renaming row new)
 
 pub rename-view : (d : List ℕ) (old new : Name) → Refused (renamePlan d old new) ⊎ RenameDone d old new
 unfolding renamePlan
-rename-view d old new = go (legal old && legal new) refl (spared old || spared new) refl (fileOf d old) refl (fileOf d new) refl
+rename-view d old new = go (legal old && legal new) refl (spared old || spared new) refl (fileOf d old) refl
   where
-    go : (x : Bool) → legal old && legal new ≡ x → (y : Bool) → spared old || spared new ≡ y
-        → (o : Option Row) → fileOf d old ≡ o → (o′ : Option Row) → fileOf d new ≡ o′
-        → Refused (renamePlan d old new) ⊎ RenameDone d old new
-    go false i y j o e o′ e′ = inl (record { less = 6; plan = rw i })
-    go true i true j o e o′ e′ = inl (record { less = 18; plan = rw (i, j) })
-    go true i false j none e o′ e′ = inl (record { less = 12; plan = rw (i, j, e) })
-    go true i false j (some r) e (some r′) e′ = inl (record { less = 13; plan = rw (i, j, e, e′) })
-    go true i false j (some r) e none e′ =
+    at : legal old && legal new ≡ true → spared old || spared new ≡ false → (r : Row) → fileOf d old ≡ some r
+        → (z : Bool) → protected (r .entry) ≡ z → (o : Option Row) → fileOf d new ≡ o → Refused (renamePlan d old new) ⊎ RenameDone d old new
+    at i j r e true g o f = inl (record { less = 19; plan = rw (i, j, e, g) })
+    at i j r e false g (some r′) f = inl (record { less = 13; plan = rw (i, j, e, g, f) })
+    at i j r e false g none f =
         let l = both (legal old) (legal new) i in
         let n = neither (spared old) (spared new) j in
         inr
@@ -191,9 +237,17 @@ rename-view d old new = go (legal old && legal new) refl (spared old || spared n
           single-old = once-file old (n .0);
           single-new = once-file new (n .1);
           was = e;
-          none-new = e′;
-          plan = rw (i, j, e, e′);
+          free = g;
+          none-new = f;
+          plan = rw (i, j, e, f, g);
         })
+
+    go : (x : Bool) → legal old && legal new ≡ x → (y : Bool) → spared old || spared new ≡ y → (o : Option Row) → fileOf d old ≡ o
+        → Refused (renamePlan d old new) ⊎ RenameDone d old new
+    go false i y j o e = inl (record { less = 6; plan = rw i })
+    go true i true j o e = inl (record { less = 18; plan = rw (i, j) })
+    go true i false j none e = inl (record { less = 12; plan = rw (i, j, e) })
+    go true i false j (some r) e = at i j r e (protected (r .entry)) refl (fileOf d new) refl
 
 -- the final length is n
 pub record CloseDone (d : List ℕ) (job ch : ℕ) (final : Option ℕ) : Type 0 where
@@ -202,6 +256,7 @@ pub record CloseDone (d : List ℕ) (job ch : ℕ) (final : Option ℕ) : Type 0
   pub good : goodChannel job ch ≡ true
   pub old : openOn d (wordOf job ch) ≡ some row
   pub least : n ≤ blocks (row .entry)
+  pub free : overProtected d (nameOf (row .entry)) ≡ false
   pub plan : closePlan d job ch final ≡ done row n (closing d row n)
 
 pub close-view : (d : List ℕ) (job ch : ℕ) (final : Option ℕ) → Refused (closePlan d job ch final) ⊎ CloseDone d job ch final
@@ -209,17 +264,28 @@ unfolding closePlan
 close-view d job ch final = go (goodChannel job ch) refl (openOn d (wordOf job ch)) refl final refl
   where
     at : (r : Row) → goodChannel job ch ≡ true → openOn d (wordOf job ch) ≡ some r → (n : ℕ) → final ≡ some n
-        → (y : Bool) → leb n (blocks (r .entry)) ≡ y → Refused (closePlan d job ch final) ⊎ CloseDone d job ch final
-    at r i e n g false j = inl (record { less = 15; plan = rw (i, e, g, j) })
-    at r i e n g true j =
-        inr (record { row = r; n = n; good = i; old = e; least = leb-true n (blocks (r .entry)) j; plan = rw (i, e, g, j) })
+        → (y : Bool) → leb n (blocks (r .entry)) ≡ y → (z : Bool) → overProtected d (nameOf (r .entry)) ≡ z
+        → Refused (closePlan d job ch final) ⊎ CloseDone d job ch final
+    at r i e n g false j z k = inl (record { less = 15; plan = rw (i, e, g, j) })
+    at r i e n g true j true k = inl (record { less = 19; plan = rw (i, e, g, j, k) })
+    at r i e n g true j false k =
+        inr
+        (record {
+          row = r;
+          n = n;
+          good = i;
+          old = e;
+          least = leb-true n (blocks (r .entry)) j;
+          free = k;
+          plan = rw (i, e, g, j, k);
+        })
 
     go : (x : Bool) → goodChannel job ch ≡ x → (o : Option Row) → openOn d (wordOf job ch) ≡ o → (n : Option ℕ) → final ≡ n
         → Refused (closePlan d job ch final) ⊎ CloseDone d job ch final
     go false i o e n g = inl (record { less = 7; plan = rw i })
     go true i none e n g = inl (record { less = 14; plan = rw (i, e) })
     go true i (some r) e none g = inl (record { less = 15; plan = rw (i, e, g) })
-    go true i (some r) e (some n) g = at r i e n g (leb n (blocks (r .entry))) refl
+    go true i (some r) e (some n) g = at r i e n g (leb n (blocks (r .entry))) refl (overProtected d (nameOf (r .entry))) refl
 
 -- the writes are good
 module _ (v : ℕ) (d : List ℕ) (s : Sound v d) where
@@ -231,6 +297,16 @@ module _ (v : ℕ) (d : List ℕ) (s : Sound v d) where
       ⊎-elim (refused-good (One (File name)) (deletePlan d name))
       (λ x. rw (x .plan) (file-gone v d s name (x .single) (x .row) (x .old) .good))
       (delete-view d name)
+
+  pub restate-stated : (name : Name) (status : ℕ) → kindOf status ≡ Permanent → (x : RestateDone d name status)
+      → Stated d (x .row) (File name) (set (x .row .entry) statusWord status) (restating (x .row) status)
+  restate-stated name status perm x = file-stated v d s name (x .single) (x .row) (x .old) (x .legal) status perm
+
+  pub restate-good : (name : Name) (status : ℕ) → kindOf status ≡ Permanent → Good d (One (File name)) (restatePlan d name status .writes)
+  restate-good name status perm =
+      ⊎-elim (refused-good (One (File name)) (restatePlan d name status))
+      (λ x. rw (x .plan) (restate-stated name status perm x .good))
+      (restate-view d name status)
 
   pub abandon-good : (job ch : ℕ) → Good d (AbandonNames (wordOf job ch) (openAt d job ch)) (abandonPlan d job ch .writes)
   abandon-good job ch =

@@ -19,10 +19,10 @@ use Rattle.meaning.specs.Requests.{legal, successWith, lookup, wordOf, entryOf}
 use Rattle.meaning.specs.Enter.{Size, exact, sizeOf, Area, wanted, entered, firstFit, enter}
 use Rattle.meaning.specs.declared.Key.{Key}
 use Rattle.meaning.specs.declared.Key.the-variants.{File, Open}
-use Rattle.meaning.specs.Keys.{keyOf, holds, fileBad}
+use Rattle.meaning.specs.Keys.{keyOf, holds}
 use Rattle.walks.specs.Lists.{All}
 use Rattle.laws.specs.Refusals.{beforeRoom}
-use Rattle.laws.specs.Kept.{BadStays}
+use Rattle.laws.specs.Kept.{AllStay}
 use Rattle.laws.specs.Order.{filesOf}
 use Rattle.laws.specs.Room.{SameFile, KeptByEnter}
 use Rattle.rules.proofs.Keys.{file≢open, IsOpen, open-holds, one-key, other-key}
@@ -230,15 +230,16 @@ module _ (v : ℕ) (d : List ℕ) (h : fault v d ≡ 0) (name : Name) (asked : �
   pub enter-found : FoundAsBefore (enter v d name asked job ch date .words)
   enter-found = of-words FoundAsBefore (λ k ne. refl) found-same
 
-  -- and every FILE.BAD stays
-  entered-stays : (p : Area) → legal name ≡ true → openOn d x ≡ none → firstFit n (eligiblesOf d) ≡ some p → BadStays d (entered t e n p)
-  entered-stays p is-legal none-open fit =
-      faces-stay (filesOf d fileBad) (filesOf (entered t e n p) fileBad)
-      (gained-every v d (entered t e n p) sd (en p is-legal none-open fit .sound) _ (gained p is-legal none-open fit) (File fileBad)
-      (new-other (slotWords d) name n x date (File fileBad) (file≢open fileBad x)))
-
-  pub enter-stays : BadStays d (enter v d name asked job ch date .words)
-  enter-stays = of-words (BadStays d) (all-stay (filesOf d fileBad)) entered-stays
+  -- and all files of a name stay, every FILE.BAD too
+  pub enter-stays : (m : Name) → AllStay (filesOf d m) (filesOf (enter v d name asked job ch date .words) m)
+  enter-stays m = of-words (λ (l : List ℕ). AllStay (filesOf d m) (filesOf l m)) (all-stay (filesOf d m)) after
+    where
+      after : (p : Area) → legal name ≡ true → openOn d x ≡ none → firstFit n (eligiblesOf d) ≡ some p
+          → AllStay (filesOf d m) (filesOf (entered t e n p) m)
+      after p is-legal none-open fit =
+          faces-stay (filesOf d m) (filesOf (entered t e n p) m)
+          (gained-every v d (entered t e n p) sd (en p is-legal none-open fit .sound) _ (gained p is-legal none-open fit) (File m)
+          (new-other (slotWords d) name n x date (File m) (file≢open m x)))
 
   pub enter-kept : KeptByEnter v d name (sizeOf asked) (wordOf job ch) date (enter v d name asked job ch date)
   enter-kept = keeps (enter v d name asked job ch date) (entering d name asked job ch date v h)

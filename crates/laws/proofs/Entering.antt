@@ -14,7 +14,7 @@ use Rattle.meaning.specs.Words.{slotWords, Entry, chain, Row}
 use Rattle.meaning.specs.Keys.{spared}
 use Rattle.meaning.specs.Sound.{fault}
 use Rattle.meaning.specs.Answers.{Outcome, refuse, success, unless, isNone, openOn}
-use Rattle.meaning.specs.Requests.{legal, goodChannel, wordOf, entryOf}
+use Rattle.meaning.specs.Requests.{legal, goodChannel, wordOf, overProtected, entryOf}
 use Rattle.meaning.specs.Enter.{Area, sizeOf, goodSize, tidied, areas, eligibles, wanted, atLeast, longEnough, firstFit, entered, placed}
 use Rattle.meaning.specs.Enter.{enter}
 use Rattle.walks.proofs.Fits.{wanted-fits}
@@ -56,7 +56,7 @@ module _ (d : List ℕ) (name : Name) (asked : ℤ) (job channel date : ℕ) whe
   last p = placed d (tidiedOf d) (lengthOf d asked) date (entryFor d name asked job channel date) p
 
   by-tests : (x7 : Bool) → legal name ≡ x7 → (x19 x8 x9 : Bool) (o : Option Row) → openOn d (wordOf job channel) ≡ o
-      → (x11 : Bool) → longEnough (atLeast (sizeOf asked)) (areasOf d) ≡ x11
+      → (x20 x11 : Bool) → longEnough (atLeast (sizeOf asked)) (areasOf d) ≡ x11
       → (x12 : Bool) → longEnough (atLeast (sizeOf asked)) (eligiblesOf d) ≡ x12
       → Ends
       (unless 7 x7 d λ _.
@@ -64,17 +64,19 @@ module _ (d : List ℕ) (name : Name) (asked : ℤ) (job channel date : ℕ) whe
       unless 8 x8 d λ _.
       unless 9 x9 d λ _.
       unless 10 (isNone o) d λ _.
+      unless 20 x20 d λ _.
       unless 11 x11 d λ _.
       unless 12 x12 d λ _.
       last (firstFit (lengthOf d asked) (eligiblesOf d)))
-  by-tests false e7 x19 x8 x9 o e10 x11 e11 x12 e12 = early 7 (among 7 beforeRoom refl) refl
-  by-tests true e7 false x8 x9 o e10 x11 e11 x12 e12 = early 19 (among 19 beforeRoom refl) refl
-  by-tests true e7 true false x9 o e10 x11 e11 x12 e12 = early 8 (among 8 beforeRoom refl) refl
-  by-tests true e7 true true false o e10 x11 e11 x12 e12 = early 9 (among 9 beforeRoom refl) refl
-  by-tests true e7 true true true (some r) e10 x11 e11 x12 e12 = early 10 (among 10 beforeRoom refl) refl
-  by-tests true e7 true true true none e10 false e11 x12 e12 = short e11 refl
-  by-tests true e7 true true true none e10 true e11 false e12 = crowded e11 e12 refl
-  by-tests true e7 true true true none e10 true e11 true e12 =
+  by-tests false e7 x19 x8 x9 o e10 x20 x11 e11 x12 e12 = early 7 (among 7 beforeRoom refl) refl
+  by-tests true e7 false x8 x9 o e10 x20 x11 e11 x12 e12 = early 19 (among 19 beforeRoom refl) refl
+  by-tests true e7 true false x9 o e10 x20 x11 e11 x12 e12 = early 8 (among 8 beforeRoom refl) refl
+  by-tests true e7 true true false o e10 x20 x11 e11 x12 e12 = early 9 (among 9 beforeRoom refl) refl
+  by-tests true e7 true true true (some r) e10 x20 x11 e11 x12 e12 = early 10 (among 10 beforeRoom refl) refl
+  by-tests true e7 true true true none e10 false x11 e11 x12 e12 = early 20 (among 20 beforeRoom refl) refl
+  by-tests true e7 true true true none e10 true false e11 x12 e12 = short e11 refl
+  by-tests true e7 true true true none e10 true true e11 false e12 = crowded e11 e12 refl
+  by-tests true e7 true true true none e10 true true e11 true e12 =
       let f = wanted-fits (sizeOf asked) (eligiblesOf d) e12 in
       taken (f .0) e7 e10 e12 (f .1) (ap last (f .1))
 
@@ -83,6 +85,7 @@ module _ (d : List ℕ) (name : Name) (asked : ℤ) (job channel date : ℕ) whe
   entering v h =
       rw h
       (by-tests (legal name) refl (not (spared name)) (goodChannel job channel) (goodSize (sizeOf asked) && goodDate date) (openOn d (wordOf job channel)) refl
+      (not (overProtected d name))
       (longEnough (atLeast (sizeOf asked)) (areasOf d))
       refl
       (longEnough (atLeast (sizeOf asked)) (eligiblesOf d))

@@ -46,6 +46,16 @@ pub cleared : (e : Entry) → Seven e → Cleared e (set e statusWord emptyStatu
 unfolding kindOf
 cleared e (seven x0 x1 x2 x3 x4 x5 x6 xs) = record { kind = refl; blocks = refl }
 
+-- the status set to that of a permanent entry
+pub record Restated (status : ℕ) (e e′ : Entry) : Type 0 where
+  pub file : kindOf status ≡ Permanent → IsFile (nameOf e) e′
+  pub blocks : blocks e′ ≡ blocks e
+  pub date : dateOf e′ ≡ dateOf e
+
+pub restated : (e : Entry) (status : ℕ) → Seven e → Restated status e (set e statusWord status)
+restated e status (seven x0 x1 x2 x3 x4 x5 x6 xs) =
+    record { file = λ h. record { permanent = h; name = refl }; blocks = refl; date = refl }
+
 -- the name words set
 pub record Renamed (n : Name) (e e′ : Entry) : Type 0 where
   pub file : kind e ≡ Permanent → IsFile n e′

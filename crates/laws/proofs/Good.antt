@@ -1,6 +1,7 @@
 -- Good writes: what the writes of a request have in common. Each is to a slot that the request owns, that of an entry of a key
 -- that it names or of the empty entry after one; the whole keeps the directory's shape, and each key that may stand once
--- comes from one key at most. A request that carries something out makes one key go, and may make another that comes from it.
+-- comes from one key at most. A request that carries something out makes one key go, and may make another that comes from it; or it
+-- leaves the key to its entry.
 use Prim.Native.Nat.{ℕ, _+_, _*_}
 use mathlib.Core.Path.{_≡_, refl}
 use mathlib.Core.Logic.{_⊎_, ⊎-elim}
@@ -56,6 +57,20 @@ pub record Made (d : List ℕ) (r : Row) (k l : Key) (n : ℕ) (ws : List Write)
   pub key : holds l (entryAt (write d ws) (slotWords d) (r .at)) ≡ true
   pub length : blocks (entryAt (write d ws) (slotWords d) (r .at)) ≡ n
   pub date : dateOf (entryAt (write d ws) (slotWords d) (r .at)) ≡ dateOf (r .entry)
+
+-- the entry of the row r keeps its key k, and becomes e
+pub record Stated (d : List ℕ) (r : Row) (k : Key) (e : Entry) (ws : List Write) : Type 0 where
+  pub good : Good d (One k) ws
+  pub same : All (After d (write d ws) k (holds k)) (rows d)
+  pub entry : entryAt (write d ws) (slotWords d) (r .at) ≡ e
+
+pub same-source : (d d′ : List ℕ) (k : Key) → All (After d d′ k (holds k)) (rows d) → (m : Key) → once m ≡ true
+    → Source (One k) d d′ m
+same-source d d′ k a m o = go (same-key m k)
+  where
+    go : Dec (m ≡ k) → Source (One k) d d′ m
+    go (yes p) = rw p (from k (rw p at o) a)
+    go (no p) = other p
 
 pub gone-source : (d d′ : List ℕ) (k : Key) → All (After d d′ k nothing) (rows d) → (m : Key) → once m ≡ true
     → Source (One k) d d′ m

@@ -64,21 +64,21 @@ find-nothing [] = refl
 find-nothing (r ∷ rs) = find-nothing rs
 
 -- what is found is the first of all rows that pass the test
-first : List Row → Option Row
-first [] = none
-first (r ∷ rs) = some r
+unfoldable pub first-of : List Row → Option Row
+first-of [] = none
+first-of (r ∷ rs) = some r
 
-find-first : (p : Entry → Bool) (rs : List Row) → find p rs ≡ first (every p rs)
-unfolding find every first
+pub find-first : (p : Entry → Bool) (rs : List Row) → find p rs ≡ first-of (every p rs)
+unfolding find every first-of
 find-first p [] = refl
 find-first p (r ∷ rs) = go (p (r .entry)) (find-first p rs)
   where
-    go : (x : Bool) → find p rs ≡ first (every p rs) → cond x (some r) (find p rs) ≡ first (cond x (r ∷ every p rs) (every p rs))
+    go : (x : Bool) → find p rs ≡ first-of (every p rs) → cond x (some r) (find p rs) ≡ first-of (cond x (r ∷ every p rs) (every p rs))
     go true i = refl
     go false i = i
 
 pub found-every : (p : Entry → Bool) (rs rs′ : List Row) → every p rs ≡ every p rs′ → find p rs ≡ find p rs′
-found-every p rs rs′ e = find-first p rs ∙ ap first e ∙ sym (find-first p rs′)
+found-every p rs rs′ e = find-first p rs ∙ ap first-of e ∙ sym (find-first p rs′)
 
 -- a row with its entry read anew
 abbrev pub reread : List ℕ → List ℕ → Row → Row

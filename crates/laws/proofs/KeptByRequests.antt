@@ -1,30 +1,33 @@
--- Delete, abandon, rename and close keep a sound directory sound, and what lookup answers after each. Each is its plan carried
--- out; where it succeeds its writes tell what became of its own keys, and the other keys are found as before.
+-- Delete, abandon, rename, protect, unprotect and close keep a sound directory sound, and what lookup answers after each. Each is its plan
+-- carried out; where it succeeds its writes tell what became of its own keys, and the other keys are found as before.
 use Prim.Native.Nat.{ℕ, suc}
 use native.Mathlib.Omega.{arith}
-use mathlib.Core.Path.{_≡_, sym, _∙_, subst}
+use mathlib.Core.Path.{_≡_, sym, ap, _∙_, subst}
 use mathlib.Core.Logic.{_⊎_, inl, inr, ⊎-elim}
 use mathlib.Core.Bool.{Bool, true, false, cond}
 use mathlib.Core.List.{List}
 use mathlib.Core.Option.{Option, none, some}
 use lib.IntN.{ℤ}
+use lib.ListN.{getD}
 use Rattle.meaning.specs.declared.Name.{Name}
-use Rattle.meaning.specs.Words.{nameOf, Row, rows}
+use Rattle.meaning.specs.declared.Kind.the-variants.{Permanent}
+use Rattle.meaning.specs.Kinds.{kindOf}
+use Rattle.meaning.specs.Words.{statusWord, nameOf, Row, rows}
 use Rattle.meaning.specs.Keys.{fileBad}
 use Rattle.meaning.specs.Sound.{fault}
-use Rattle.meaning.specs.Answers.{openOn}
-use Rattle.meaning.specs.Requests.{legal, lookup, rename, close, closing, finalLength, goodChannel, wordOf}
+use Rattle.meaning.specs.Answers.{fileOf, openOn, write}
+use Rattle.meaning.specs.Requests.{legal, lookup, restating, restate, rename, close, closing, finalLength, goodChannel, wordOf}
 use Rattle.meaning.specs.declared.Key.the-variants.{File, Open}
-use Rattle.laws.specs.Kept.{KeptByDelete, KeptByAbandon, KeptByRename, FilePresent, KeptByClose}
-use Rattle.rules.proofs.Keys.{once-other, file≢open}
+use Rattle.laws.specs.Kept.{KeptByDelete, KeptByAbandon, KeptByRename, withStatus, KeptByStatus, FilePresent, KeptByClose}
+use Rattle.rules.proofs.Keys.{once-other, same-key, file≢open}
 use Rattle.rules.proofs.Soundness.{sound}
-use Rattle.laws.proofs.Good.{Good, Two, Made}
-use Rattle.laws.proofs.Plans.{Plan, deletePlan, renamePlan, closePlan, delete-is, abandon-is, rename-is, close-is}
-use Rattle.laws.proofs.Deeds.{file-key, open-key, file-gone, file-made, rename-made, openAt, CloseNames, AbandonNames}
-use Rattle.laws.proofs.Deeds.{Refused, delete-view, RenameDone, rename-view, CloseDone, close-view}
-use Rattle.laws.proofs.Deeds.{delete-good, abandon-good, rename-good, close-good}
+use Rattle.laws.proofs.Good.{Good, One, Two, Made}
+use Rattle.laws.proofs.Plans.{Plan, deletePlan, restatePlan, renamePlan, closePlan, delete-is, restate-is, abandon-is, rename-is, close-is}
+use Rattle.laws.proofs.Deeds.{file-key, open-key, file-gone, stated-already, file-made, restate-stated, rename-made, openAt, CloseNames}
+use Rattle.laws.proofs.Deeds.{AbandonNames, Refused, delete-view, RestateDone, restate-view, RenameDone, rename-view, CloseDone, close-view}
+use Rattle.laws.proofs.Deeds.{delete-good, restate-good, abandon-good, rename-good, close-good}
 use Rattle.laws.proofs.Stays.{made-present}
-use Rattle.laws.proofs.Lookups.{good-sound, others-seen, gone-seen, made-seen, lookup-seen}
+use Rattle.laws.proofs.Lookups.{good-sound, others-seen, gone-seen, made-seen, lookup-seen, stated-found, stated-seen}
 
 -- a plan of number 0 is no refusal
 succeeds : {A : Type 0} (p : Plan) → p .answer .number ≡ 0 → Refused p ⊎ A → A
@@ -91,6 +94,43 @@ module _ (v : ℕ) (d : List ℕ) (h : fault v d ≡ 0) where
 
       done : rename v d old new .answer .number ≡ 0 → RenameDone d old new
       done z = succeeds (renamePlan d old new) (rw (rename-is v d h old new) at z) (rename-view d old new)
+
+  pub kept-by-status : (name : Name) (status : ℕ) → kindOf status ≡ Permanent → KeptByStatus v d name status (restate v d name status)
+  unfolding write
+  kept-by-status name status perm =
+      record {
+        sound = rw (restate-is v d h name status) (good-sound v d h _ _ good);
+        all = λ n. rw (restate-is v d h name status) (seen-as n (same-key (File n) (File name)) (restate-view d name status));
+        stated =
+            λ r e z.
+            let x = succeeds (restatePlan d name status) (rw (restate-is v d h name status) at z) (restate-view d name status) in
+            rw (restate-is v d h name status, x .plan)
+            (subst (λ (y : Row). fileOf (write d (restating (x .row) status)) name ≡ some (withStatus y status))
+            (same-row (x .row) r (x .old) e)
+            (stated-found v d h (x .row) name status _ (restate-stated v d (sound v d h) name status perm x) (x .old)));
+        already = λ r e g. rw (restate-is v d h name status) (unchanged r e g (restate-view d name status));
+      }
+    where
+      good : Good d (One (File name)) (restatePlan d name status .writes)
+      good = restate-good v d (sound v d h) name status perm
+
+      same-row : (r r′ : Row) → fileOf d name ≡ some r → fileOf d name ≡ some r′ → r ≡ r′
+      same-row r r′ e e′ = cc
+
+      seen-as : (n : Name) → Dec (File n ≡ File name) → Refused (restatePlan d name status) ⊎ RestateDone d name status
+          → lookup v (write d (restatePlan d name status .writes)) n .answer ≡ lookup v d n .answer
+      seen-as n (no q) x = others-seen v d h _ _ good n q
+      seen-as n (yes q) (inl x) = rw (x .plan)
+      seen-as n (yes q) (inr x) =
+          rw (x .plan, same-name n name q)
+          (stated-seen v d h (x .row) name status _ (restate-stated v d (sound v d h) name status perm x) (x .old))
+
+      unchanged : (r : Row) → fileOf d name ≡ some r → getD (r .entry) statusWord 0 ≡ status
+          → Refused (restatePlan d name status) ⊎ RestateDone d name status → write d (restatePlan d name status .writes) ≡ d
+      unchanged r e g (inl x) = rw (x .plan)
+      unchanged r e g (inr x) =
+          rw (x .plan)
+          (stated-already v d (sound v d h) name (x .row) (x .old) status (ap (λ (y : Row). getD (y .entry) statusWord 0) (same-row (x .row) r (x .old) e) ∙ g))
 
   pub kept-by-close : (job ch : ℕ) (final : ℤ) → KeptByClose v d job ch final
   kept-by-close job ch final =

@@ -16,6 +16,7 @@ pub mod Demand3
 pub mod Witness
 pub mod Lookups
 pub mod KeptByRequests
+pub mod Guarded
 pub mod KeptByFresh
 pub mod Kept
 pub mod Rendered

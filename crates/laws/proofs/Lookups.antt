@@ -1,24 +1,28 @@
 -- What lookup answers in a sound directory is told by the row that it finds. So after good writes it answers as before for each
 -- file whose key is not named, 13 for a file that goes, and for a file that is made what stands in its entry, from the block
--- where that was.
+-- where that was; and as before for a file whose status alone is another.
 use Prim.Native.Nat.{ℕ}
 use mathlib.Core.Path.{_≡_, refl, sym, ap, _∙_}
 use mathlib.Core.Bool.{Bool, true, false}
 use mathlib.Core.List.{List}
 use mathlib.Core.Option.{Option, none, some, Option·map}
+use native.Mathlib.Omega.{arith}
+use lib.ListN.{set}
+use lib.Seq.{getD-set-other}
 use Rattle.meaning.specs.declared.Name.{Name}
 use Rattle.meaning.specs.declared.Answer.{Answer}
-use Rattle.meaning.specs.Words.{blocks, dateOf, Row, rows}
+use Rattle.meaning.specs.Words.{statusWord, lengthWord, dateWord, blocks, dateOf, Row, rows}
 use Rattle.meaning.specs.Sound.{fault}
 use Rattle.meaning.specs.Answers.{refusal, granted, refuse, success, unless, onRow, find, fileOf, Write, write}
 use Rattle.meaning.specs.Requests.{legal, successWith, lookup}
 use Rattle.meaning.specs.declared.Key.{Key}
 use Rattle.meaning.specs.declared.Key.the-variants.{File}
 use Rattle.meaning.specs.Keys.{holds, once}
+use Rattle.laws.specs.Kept.{withStatus}
 use Rattle.walks.specs.Lists.{All}
 use Rattle.rules.proofs.Soundness.{sound, faultless}
 use Rattle.laws.proofs.Keeps.{After, nothing, reread, stays-sound, found-other, found-from, found-nowhere}
-use Rattle.laws.proofs.Good.{Good, Made}
+use Rattle.laws.proofs.Good.{Good, Made, Stated}
 use Rattle.laws.proofs.Deeds.{file-key}
 
 abbrev pub seen : Bool → Option Row → Answer
@@ -75,3 +79,34 @@ made-seen v d h r k name n ws m e o l =
       m .length,
       m .date,
     )
+
+-- the file with another status is found where it was
+pub stated-found : (v : ℕ) (d : List ℕ) → fault v d ≡ 0 → (r : Row) (name : Name) (status : ℕ) (ws : List Write)
+    → Stated d r (File name) (set (r .entry) statusWord status) ws → fileOf d name ≡ some r → fileOf (write d ws) name ≡ some (withStatus r status)
+stated-found v d h r name status ws m e =
+    rw (
+      file-key (write d ws) name,
+      found-made v d h _ ws (m .good) (File name) (File name) (m .same) r (sym (file-key d name) ∙ e),
+      m .entry,
+    )
+
+-- and is answered as before
+status-seen : (b : Bool) (r : Row) (status : ℕ) → seen b (some (withStatus r status)) ≡ seen b (some r)
+status-seen false r status = refl
+status-seen true r status =
+    rw (
+      getD-set-other (r .entry) statusWord lengthWord status 0 (λ z. omega arith),
+      getD-set-other (r .entry) statusWord dateWord status 0 (λ z. omega arith),
+    )
+
+pub stated-seen : (v : ℕ) (d : List ℕ) → fault v d ≡ 0 → (r : Row) (name : Name) (status : ℕ) (ws : List Write)
+    → Stated d r (File name) (set (r .entry) statusWord status) ws → fileOf d name ≡ some r
+    → lookup v (write d ws) name .answer ≡ lookup v d name .answer
+stated-seen v d h r name status ws m e =
+    rw (
+      lookup-seen v (write d ws) (good-sound v d h _ ws (m .good)) name,
+      lookup-seen v d h name,
+      stated-found v d h r name status ws m e,
+      e,
+    )
+    (status-seen (legal name) r status)

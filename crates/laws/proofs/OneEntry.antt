@@ -1,5 +1,5 @@
--- Writes to one entry that are good: the entry of a key becomes empty, by a delete or an abandon; the entry of a file gets a
--- name that no file has, by a rename.
+-- Writes to one entry that are good: the entry of a key becomes empty, by a delete or an abandon; the entry of a file gets another status of
+-- a permanent entry, by a protect or an unprotect, or a name that no file has, by a rename.
 use Prim.Native.Nat.{ℕ, _+_, _<_}
 use native.Mathlib.Decide.{ℕ-discrete}
 use native.Mathlib.Omega.{arith}
@@ -10,11 +10,12 @@ use mathlib.Core.List.{List, [], _∷_}
 use lib.ListN.{set}
 use Rattle.bools.proofs.Bools.{never}
 use Rattle.meaning.specs.declared.Name.{Name}
-use Rattle.meaning.specs.Kinds.{emptyStatus}
+use Rattle.meaning.specs.declared.Kind.the-variants.{Permanent}
+use Rattle.meaning.specs.Kinds.{emptyStatus, kindOf}
 use Rattle.meaning.specs.Words.{slotWords, Entry, statusWord, nameWord, name2Word, extensionWord, blocks, dateOf, Row, rows}
 use Rattle.meaning.specs.Sound.{longName}
 use Rattle.meaning.specs.Answers.{Write, put, write}
-use Rattle.meaning.specs.Requests.{emptying, renaming}
+use Rattle.meaning.specs.Requests.{emptying, restating, renaming}
 use Rattle.meaning.specs.declared.Key.{Key}
 use Rattle.meaning.specs.declared.Key.the-variants.{File}
 use Rattle.meaning.specs.Keys.{holds, once}
@@ -26,8 +27,8 @@ use Rattle.rules.proofs.Keys.{IsFile, is-file, file-holds, empty-holds, other-k
 use Rattle.rules.proofs.Touch.{Touch, keep, gone, made}
 use Rattle.rules.proofs.Rows.{Stand, Fails, Only}
 use Rattle.laws.proofs.Keeps.{After, nothing, Source}
-use Rattle.laws.proofs.Entries.{slot-seven, Cleared, cleared, Renamed, renamed, file-short}
-use Rattle.laws.proofs.Good.{Owned, mine, Owns, Good, One, Two, Gone, Made, gone-source, made-source, good, after-writes}
+use Rattle.laws.proofs.Entries.{slot-seven, Cleared, cleared, Restated, restated, Renamed, renamed, file-short}
+use Rattle.laws.proofs.Good.{Owned, mine, Owns, Good, One, Two, Gone, Made, Stated, same-source, gone-source, made-source, good, after-writes}
 
 module _ (d : List ℕ) (st : All (Stand d) (rows d)) where
   abbrev w : ℕ
@@ -63,6 +64,15 @@ module _ (d : List ℕ) (st : All (Stand d) (rows d)) where
     -- of the key k there is no other entry
     unique : (x : Row) → Stand d x → Only (holds k) (r .at) x → (r .at ≡ x .at → ⊥) → holds k (f (x .at)) ≡ false
     unique x t o q = never (holds k (f (x .at))) (λ z. q (sym (o (rw (t .is) z))))
+
+    -- it stays
+    key-stays : holds k e ≡ true → All (After d (write d ws) k (holds k)) (rows d)
+    key-stays g =
+        after-writes d st ws fits k (holds k) (Stand d) st (λ x t o. go x (ℕ-discrete (r .at) (x .at)))
+      where
+        go : (x : Row) → Dec (r .at ≡ x .at) → holds k (edit (x .at) (f (x .at)) ws) ≡ holds k (f (x .at))
+        go x (yes q) = rw (← q, own-edit, g, key-at)
+        go x (no q) = rw (away (x .at) q)
 
     -- it goes; a key that the entry now has, and none had, comes from it
     key-gone : holds k e ≡ false → All (After d (write d ws) k nothing) (rows d)
@@ -129,6 +139,51 @@ module _ (d : List ℕ) (st : All (Stand d) (rows d)) where
 
       x : Cleared (f (r .at)) e
       x = cleared (f (r .at)) (slot-seven d (r .at) (s .slot))
+
+  -- protect and unprotect
+  pub stating : (r : Row) → Stand d r → (name : Name) → once (File name) ≡ true → holds (File name) (r .entry) ≡ true
+      → All (Only (holds (File name)) (r .at)) (rows d) → longName name ≡ false → (status : ℕ) → kindOf status ≡ Permanent
+      → Stated d r (File name) (set (r .entry) statusWord status) (restating r status)
+  unfolding restating
+  stating r s name one h only fine status perm =
+      let g = key-stays r s k h only ws to within e refl has in
+      record {
+        good =
+            one-good r s k h only ws to within e refl (One k) refl
+            (made k k refl one (key-at r s k h only ws to within e refl) refl has (x .permanent) (file-short name e x fine) refl)
+            (y .blocks)
+            (same-source d (write d ws) k g);
+        same = g;
+        entry = entry-after r s k h only ws to within e refl ∙ ap (λ (z : Entry). set z statusWord status) (sym (s .is));
+      }
+    where
+      k : Key
+      k = File name
+
+      ws : List Write
+      ws = put (r .at) statusWord status ∷ []
+
+      to : All (To (r .at)) ws
+      to = (refl, tt)
+
+      within : All (λ (x : Write). x .word < w) ws
+      within = (omega arith, tt)
+
+      e : Entry
+      e = set (f (r .at)) statusWord status
+
+      y : Restated status (f (r .at)) e
+      y = restated (f (r .at)) status (slot-seven d (r .at) (s .slot))
+
+      x : IsFile name e
+      x =
+          record {
+            permanent = y .file perm .permanent;
+            name = y .file perm .name ∙ is-file name (f (r .at)) (rw (s .is) at h) .name;
+          }
+
+      has : holds k e ≡ true
+      has = file-holds name e x
 
   -- rename
   pub giving : (r : Row) → Stand d r → (old new : Name) → once (File old) ≡ true → holds (File old) (r .entry) ≡ true

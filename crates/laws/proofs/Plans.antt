@@ -1,4 +1,4 @@
--- What a delete, rename, close or abandon does in a sound directory: an answer and a list of writes, both computed from what it
+-- What a delete, rename, close, abandon, protect or unprotect does in a sound directory: an answer and a list of writes, both computed from what it
 -- finds. Each line of the request becomes a line of its plan, so the request is its plan carried out.
 use Prim.Native.Nat.{ℕ}
 use mathlib.Core.Path.{_≡_, refl}
@@ -9,12 +9,12 @@ use lib.IntN.{ℤ}
 use lib.Dec.{leb}
 use Rattle.meaning.specs.declared.Name.{Name}
 use Rattle.meaning.specs.declared.Answer.{Answer}
-use Rattle.meaning.specs.Words.{blocks, dateOf, Row}
+use Rattle.meaning.specs.Words.{nameOf, protected, blocks, dateOf, Row}
 use Rattle.meaning.specs.Keys.{spared}
 use Rattle.meaning.specs.Sound.{fault}
 use Rattle.meaning.specs.Answers.{Outcome, refusal, granted, refuse, success, unless, onRow, isNone, fileOf, openOn, Write, write}
-use Rattle.meaning.specs.Requests.{legal, successWith, emptying, delete, goodChannel, wordOf, abandon, renaming, rename, closing}
-use Rattle.meaning.specs.Requests.{finalLength, closed, close}
+use Rattle.meaning.specs.Requests.{legal, successWith, emptying, delete, restating, restate, goodChannel, wordOf, abandon, renaming, rename}
+use Rattle.meaning.specs.Requests.{overProtected, closing, finalLength, closed, close}
 
 pub record Plan : Type 0 where
   pub answer : Answer
@@ -41,7 +41,13 @@ finding n (some r) p = p r
 unfoldable pub deletePlan : List ℕ → Name → Plan
 deletePlan d name =
     testing 7 (legal name)
-    (testing 19 (not (spared name)) (finding 13 (fileOf d name) (λ r. done r (blocks (r .entry)) (emptying r))))
+    (testing 19 (not (spared name))
+    (finding 13 (fileOf d name) (λ r. testing 20 (not (protected (r .entry))) (done r (blocks (r .entry)) (emptying r)))))
+
+unfoldable pub restatePlan : List ℕ → Name → ℕ → Plan
+restatePlan d name status =
+    testing 7 (legal name)
+    (testing 19 (not (spared name)) (finding 13 (fileOf d name) (λ r. done r (blocks (r .entry)) (restating r status))))
 
 unfoldable pub abandonPlan : List ℕ → ℕ → ℕ → Plan
 abandonPlan d job ch =
@@ -51,11 +57,14 @@ unfoldable pub renamePlan : List ℕ → Name → Name → Plan
 renamePlan d old new =
     testing 7 (legal old && legal new)
     (testing 19 (not (spared old || spared new))
-    (finding 13 (fileOf d old) (λ r. testing 14 (isNone (fileOf d new)) (done r (blocks (r .entry)) (renaming r new)))))
+    (finding 13 (fileOf d old)
+    (λ r.
+    testing 20 (not (protected (r .entry))) (testing 14 (isNone (fileOf d new)) (done r (blocks (r .entry)) (renaming r new))))))
 
 abbrev pub closedPlan : List ℕ → Row → Option ℕ → Plan
 closedPlan d r none = refused 16
-closedPlan d r (some n) = testing 16 (leb n (blocks (r .entry))) (done r n (closing d r n))
+closedPlan d r (some n) =
+    testing 16 (leb n (blocks (r .entry))) (testing 20 (not (overProtected d (nameOf (r .entry)))) (done r n (closing d r n)))
 
 unfoldable pub closePlan : List ℕ → ℕ → ℕ → Option ℕ → Plan
 closePlan d job ch n = testing 8 (goodChannel job ch) (finding 15 (openOn d (wordOf job ch)) (λ r. closedPlan d r n))
@@ -86,7 +95,17 @@ module _ (v : ℕ) (d : List ℕ) (h : fault v d ≡ 0) where
       rw h
       (testing-is d 7 (legal name) _ _
       (testing-is d 19 (not (spared name)) _ _
-      (finding-is d 13 (fileOf d name) _ (λ r. done r (blocks (r .entry)) (emptying r)) (λ r. success-is d r (emptying r)))))
+      (finding-is d 13 (fileOf d name) _ (λ r. testing 20 (not (protected (r .entry))) (done r (blocks (r .entry)) (emptying r)))
+      (λ r. testing-is d 20 (not (protected (r .entry))) _ _ (success-is d r (emptying r))))))
+
+  pub restate-is : (name : Name) (status : ℕ) → restate v d name status ≡ carried d (restatePlan d name status)
+  unfolding restate restatePlan
+  restate-is name status =
+      rw h
+      (testing-is d 7 (legal name) _ _
+      (testing-is d 19 (not (spared name)) _ _
+      (finding-is d 13 (fileOf d name) _ (λ r. done r (blocks (r .entry)) (restating r status))
+      (λ r. success-is d r (restating r status)))))
 
   pub abandon-is : (job ch : ℕ) → abandon v d job ch ≡ carried d (abandonPlan d job ch)
   unfolding abandon abandonPlan
@@ -102,13 +121,18 @@ module _ (v : ℕ) (d : List ℕ) (h : fault v d ≡ 0) where
       rw h
       (testing-is d 7 (legal old && legal new) _ _
       (testing-is d 19 (not (spared old || spared new)) _ _
-      (finding-is d 13 (fileOf d old) _ (λ r. testing 14 (isNone (fileOf d new)) (done r (blocks (r .entry)) (renaming r new)))
-      (λ r. testing-is d 14 (isNone (fileOf d new)) _ _ (success-is d r (renaming r new))))))
+      (finding-is d 13 (fileOf d old) _
+      (λ r.
+      testing 20 (not (protected (r .entry))) (testing 14 (isNone (fileOf d new)) (done r (blocks (r .entry)) (renaming r new))))
+      (λ r.
+      testing-is d 20 (not (protected (r .entry))) _ _
+      (testing-is d 14 (isNone (fileOf d new)) _ _ (success-is d r (renaming r new)))))))
 
   closed-is : (r : Row) (n : Option ℕ) → closed d r n ≡ carried d (closedPlan d r n)
   unfolding success
   closed-is r none = refused-is d 16
-  closed-is r (some n) = testing-is d 16 (leb n (blocks (r .entry))) _ _ refl
+  closed-is r (some n) =
+      testing-is d 16 (leb n (blocks (r .entry))) _ _ (testing-is d 20 (not (overProtected d (nameOf (r .entry)))) _ _ refl)
 
   pub close-is : (job ch : ℕ) (final : ℤ) → close v d job ch final ≡ carried d (closePlan d job ch (finalLength final))
   unfolding close closePlan

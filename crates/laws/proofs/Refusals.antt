@@ -13,16 +13,16 @@ use borrow.Author.Tests.{eqb-true, eq-eqb}
 use Rattle.dates.specs.Dates.{goodDate}
 use Rattle.bools.proofs.Bools.{either, neither}
 use Rattle.meaning.specs.declared.Op.{Op}
-use Rattle.meaning.specs.declared.Op.the-variants.{Lookup, Enter, Close, Abandon, Delete, Rename}
+use Rattle.meaning.specs.declared.Op.the-variants.{Lookup, Enter, Close, Abandon, Delete, Rename, Protect, Unprotect}
 use Rattle.meaning.specs.declared.Request.{Request}
 use Rattle.meaning.specs.declared.Name.{Name}
 use Rattle.meaning.specs.Kinds.{tentativeStatus}
-use Rattle.meaning.specs.Words.{Row, Entry, blocks, slotWords, chain}
+use Rattle.meaning.specs.Words.{Row, Entry, nameOf, protected, blocks, slotWords, chain}
 use Rattle.meaning.specs.Keys.{spared}
 use Rattle.meaning.specs.Sound.{bad1, bad2, bad3, bad4, bad5, bad6, rule, fault}
 use Rattle.meaning.specs.Answers.{Outcome, refuse, success, passed, ifSound, unless, onRow, isNone, fileOf, openOn}
-use Rattle.meaning.specs.Requests.{legal, successWith, lookup, delete, goodChannel, wordOf, abandon, rename, finalLength, closed}
-use Rattle.meaning.specs.Requests.{close, entryOf, fresh}
+use Rattle.meaning.specs.Requests.{legal, successWith, lookup, delete, restate, protect, unprotect, goodChannel, wordOf, abandon}
+use Rattle.meaning.specs.Requests.{rename, overProtected, finalLength, closed, close, entryOf, fresh}
 use Rattle.meaning.specs.Enter.{Area, goodSize, sizeOf, tidied, areas, eligibles, wanted, atLeast, longEnough, firstFit, placed, enter}
 use Rattle.meaning.specs.Batch.{serveBy, serve}
 use Rattle.laws.specs.Refusals.{faults, asked, Among, Settled, Demand1}
@@ -109,7 +109,25 @@ module _ (v : ℕ) (d : List ℕ) where
       sound-settled v d (asked Delete) _
       (unless-settled ns d 7 (legal name) _ (among 7 ns refl)
       (unless-settled ns d 19 (not (spared name)) _ (among 19 ns refl)
+      (row-settled ns d 13 (fileOf d name) _ (among 13 ns refl)
+      (λ r. unless-settled ns d 20 (not (protected (r .entry))) _ (among 20 ns refl) (success-settled ns d _ _ _ _)))))
+
+  restate-settled : (name : Name) (status : ℕ) → Settled (faults ++ asked Protect) d (restate v d name status)
+  unfolding restate successWith
+  restate-settled name status =
+      let ns = faults ++ asked Protect in
+      sound-settled v d (asked Protect) _
+      (unless-settled ns d 7 (legal name) _ (among 7 ns refl)
+      (unless-settled ns d 19 (not (spared name)) _ (among 19 ns refl)
       (row-settled ns d 13 (fileOf d name) _ (among 13 ns refl) (λ r. success-settled ns d _ _ _ _))))
+
+  protect-settled : (name : Name) → Settled (faults ++ asked Protect) d (protect v d name)
+  unfolding protect
+  protect-settled name = restate-settled name _
+
+  unprotect-settled : (name : Name) → Settled (faults ++ asked Unprotect) d (unprotect v d name)
+  unfolding unprotect
+  unprotect-settled name = restate-settled name _
 
   abandon-settled : (job channel : ℕ) → Settled (faults ++ asked Abandon) d (abandon v d job channel)
   unfolding abandon successWith
@@ -127,13 +145,16 @@ module _ (v : ℕ) (d : List ℕ) where
       (unless-settled ns d 7 (legal old && legal new) _ (among 7 ns refl)
       (unless-settled ns d 19 (not (spared old || spared new)) _ (among 19 ns refl)
       (row-settled ns d 13 (fileOf d old) _ (among 13 ns refl)
-      (λ r. unless-settled ns d 14 (isNone (fileOf d new)) _ (among 14 ns refl) (success-settled ns d _ _ _ _)))))
+      (λ r.
+      unless-settled ns d 20 (not (protected (r .entry))) _ (among 20 ns refl)
+      (unless-settled ns d 14 (isNone (fileOf d new)) _ (among 14 ns refl) (success-settled ns d _ _ _ _))))))
 
   closed-settled : (r : Row) (n : Option ℕ) → Settled (faults ++ asked Close) d (closed d r n)
   closed-settled r none = let ns = faults ++ asked Close in refuse-settled ns d 16 (among 16 ns refl)
   closed-settled r (some n) =
       let ns = faults ++ asked Close in
-      unless-settled ns d 16 (leb n (blocks (r .entry))) _ (among 16 ns refl) (success-settled ns d _ _ _ _)
+      unless-settled ns d 16 (leb n (blocks (r .entry))) _ (among 16 ns refl)
+      (unless-settled ns d 20 (not (overProtected d (nameOf (r .entry)))) _ (among 20 ns refl) (success-settled ns d _ _ _ _))
 
   close-settled : (job channel : ℕ) (final : ℤ) → Settled (faults ++ asked Close) d (close v d job channel final)
   unfolding close
@@ -147,18 +168,27 @@ module _ (v : ℕ) (d : List ℕ) where
   placed-settled t n date new none = let ns = faults ++ asked Enter in refuse-settled ns d 12 (among 12 ns refl)
   placed-settled t n date new (some a) = success-settled (faults ++ asked Enter) d _ _ _ _
 
-  -- enter's own seven refusals, whatever they test
-  seven-settled : (a b c e f g h : Bool) (o : Outcome) → Settled (faults ++ asked Enter) d o
+  -- enter's own eight refusals, whatever they test
+  eight-settled : (a b c e f x g h : Bool) (o : Outcome) → Settled (faults ++ asked Enter) d o
       → Settled (faults ++ asked Enter) d
-      (unless 7 a d λ _. unless 19 b d λ _. unless 8 c d λ _. unless 9 e d λ _. unless 10 f d λ _. unless 11 g d λ _. unless 12 h d λ _. o)
-  seven-settled a b c e f g h o s =
+      (unless 7 a d λ _.
+      unless 19 b d λ _.
+      unless 8 c d λ _.
+      unless 9 e d λ _.
+      unless 10 f d λ _.
+      unless 20 x d λ _.
+      unless 11 g d λ _.
+      unless 12 h d λ _.
+      o)
+  eight-settled a b c e f x g h o s =
       let ns = faults ++ asked Enter in
       unless-settled ns d 7 a _ (among 7 ns refl)
       (unless-settled ns d 19 b _ (among 19 ns refl)
       (unless-settled ns d 8 c _ (among 8 ns refl)
       (unless-settled ns d 9 e _ (among 9 ns refl)
       (unless-settled ns d 10 f _ (among 10 ns refl)
-      (unless-settled ns d 11 g _ (among 11 ns refl) (unless-settled ns d 12 h (λ _. o) (among 12 ns refl) s))))))
+      (unless-settled ns d 20 x _ (among 20 ns refl)
+      (unless-settled ns d 11 g _ (among 11 ns refl) (unless-settled ns d 12 h (λ _. o) (among 12 ns refl) s)))))))
 
   enter-settled : (name : Name) (asked-size : ℤ) (job channel date : ℕ)
       → Settled (faults ++ asked Enter) d (enter v d name asked-size job channel date)
@@ -173,7 +203,8 @@ module _ (v : ℕ) (d : List ℕ) where
       let new = entryOf (slotWords d) tentativeStatus name n x date in
       let o = placed d t n date new (firstFit n fit) in
       sound-settled v d (asked Enter) _
-      (seven-settled (legal name) (not (spared name)) (goodChannel job channel) (goodSize size && goodDate date) (isNone (openOn d x))
+      (eight-settled (legal name) (not (spared name)) (goodChannel job channel) (goodSize size && goodDate date) (isNone (openOn d x))
+      (not (overProtected d name))
       (longEnough (atLeast size) all)
       (longEnough (atLeast size) fit)
       o
@@ -186,6 +217,8 @@ module _ (v : ℕ) (d : List ℕ) where
   serve-settled Abandon q = abandon-settled _ _
   serve-settled Delete q = delete-settled _
   serve-settled Rename q = rename-settled _ _
+  serve-settled Protect q = protect-settled _
+  serve-settled Unprotect q = unprotect-settled _
 
   start-settled : (extra : ℕ) → Settled (1 ∷ 2 ∷ []) d (fresh v d extra)
   unfolding fresh

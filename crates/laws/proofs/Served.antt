@@ -1,15 +1,17 @@
 -- Each request of demand 3's batch, by its plan: it is the plan carried out, its writes are good for the keys that it names, so
 -- it leaves a sound directory sound, and all rows of a key that it does not name are as before.
 use Prim.Native.Nat.{ℕ}
-use mathlib.Core.Path.{_≡_, ap}
+use mathlib.Core.Path.{_≡_, refl, ap}
 use mathlib.Core.List.{List}
 use Rattle.meaning.specs.declared.Op.{Op}
-use Rattle.meaning.specs.declared.Op.the-variants.{Lookup, Enter, Close, Abandon, Delete, Rename}
+use Rattle.meaning.specs.declared.Op.the-variants.{Lookup, Enter, Close, Abandon, Delete, Rename, Protect, Unprotect}
 use Rattle.meaning.specs.declared.Request.{Request}
 use Rattle.meaning.specs.Words.{rows}
 use Rattle.meaning.specs.Sound.{fault}
 use Rattle.meaning.specs.Answers.{Outcome, find, write}
-use Rattle.meaning.specs.Requests.{finalLength}
+use Rattle.meaning.specs.declared.Kind.the-variants.{Permanent}
+use Rattle.meaning.specs.Kinds.{permanentStatus, protectedStatus, kindOf}
+use Rattle.meaning.specs.Requests.{protect, unprotect, finalLength}
 use Rattle.meaning.specs.Batch.{serveBy, serve}
 use Rattle.meaning.specs.declared.Key.{Key}
 use Rattle.meaning.specs.Keys.{holds}
@@ -20,9 +22,9 @@ use Rattle.rules.proofs.Rows.{standing}
 use Rattle.laws.proofs.Keeps.{stays-sound, found-every, every-other}
 use Rattle.laws.proofs.Good.{Good, nothing-good}
 use Rattle.laws.proofs.Stays.{stays}
-use Rattle.laws.proofs.Plans.{Plan, carried, refused, deletePlan, abandonPlan, renamePlan, closePlan}
-use Rattle.laws.proofs.Plans.{delete-is, abandon-is, rename-is, close-is}
-use Rattle.laws.proofs.Deeds.{delete-good, abandon-good, rename-good, close-good}
+use Rattle.laws.proofs.Plans.{Plan, carried, refused, deletePlan, restatePlan, abandonPlan, renamePlan, closePlan}
+use Rattle.laws.proofs.Plans.{delete-is, restate-is, abandon-is, rename-is, close-is}
+use Rattle.laws.proofs.Deeds.{delete-good, restate-good, abandon-good, rename-good, close-good}
 
 -- a lookup and an enter are not of the batch
 abbrev pub planBy : Op → List ℕ → Request → Plan
@@ -32,18 +34,32 @@ planBy Close d q = closePlan d (q .job) (q .channel) (finalLength (q .«final_le
 planBy Abandon d q = abandonPlan d (q .job) (q .channel)
 planBy Delete d q = deletePlan d (q .name)
 planBy Rename d q = renamePlan d (q .name) (q .«new_name»)
+planBy Protect d q = restatePlan d (q .name) protectedStatus
+planBy Unprotect d q = restatePlan d (q .name) permanentStatus
 
 unfoldable pub plan : List ℕ → Request → Plan
 plan d q = planBy (q .op) d q
 
+-- the two statuses of a permanent entry
+pub protected-permanent : kindOf protectedStatus ≡ Permanent
+unfolding kindOf
+protected-permanent = refl
+
+pub plain-permanent : kindOf permanentStatus ≡ Permanent
+unfolding kindOf
+plain-permanent = refl
+
 served-by : (op : Op) (v : ℕ) (d : List ℕ) (q : Request) → InBatch op → fault v d ≡ 0
     → serveBy op v d q ≡ carried d (planBy op d q)
+unfolding protect unprotect
 served-by Lookup v d q b h = absurd b
 served-by Enter v d q b h = absurd b
 served-by Close v d q b h = close-is v d h (q .job) (q .channel) (q .«final_length»)
 served-by Abandon v d q b h = abandon-is v d h (q .job) (q .channel)
 served-by Delete v d q b h = delete-is v d h (q .name)
 served-by Rename v d q b h = rename-is v d h (q .name) (q .«new_name»)
+served-by Protect v d q b h = restate-is v d h (q .name) protectedStatus
+served-by Unprotect v d q b h = restate-is v d h (q .name) permanentStatus
 
 pub served : (v : ℕ) (d : List ℕ) (q : Request) → InBatch (q .op) → fault v d ≡ 0 → serve v d q ≡ carried d (plan d q)
 unfolding serve plan
@@ -58,6 +74,8 @@ module _ (v : ℕ) (d : List ℕ) (s : Sound v d) where
   good-by Abandon q = abandon-good v d s (q .job) (q .channel)
   good-by Delete q = delete-good v d s (q .name)
   good-by Rename q = rename-good v d s (q .name) (q .«new_name»)
+  good-by Protect q = restate-good v d s (q .name) protectedStatus protected-permanent
+  good-by Unprotect q = restate-good v d s (q .name) permanentStatus plain-permanent
 
   pub plan-good : (q : Request) → Good d (Names d q) (plan d q .writes)
   unfolding Names plan

@@ -10,13 +10,13 @@ use mathlib.Core.List.{List, [], _∷_}
 use mathlib.Core.Option.{Option, none, some}
 use lib.ListN.{getD}
 use Rattle.meaning.specs.declared.Op.{Op}
-use Rattle.meaning.specs.declared.Op.the-variants.{Lookup, Enter, Close, Abandon, Delete, Rename}
+use Rattle.meaning.specs.declared.Op.the-variants.{Lookup, Enter, Close, Abandon, Delete, Rename, Protect, Unprotect}
 use Rattle.meaning.specs.declared.Request.{Request}
 use Rattle.meaning.specs.declared.Name.{Name}
 use Rattle.meaning.specs.Words.{slotWords, lengthWord, nameOf, blocks, Row}
 use Rattle.meaning.specs.Sound.{fault}
 use Rattle.meaning.specs.Answers.{fileOf, openOn, Write, write}
-use Rattle.meaning.specs.Requests.{emptying, goodChannel, wordOf, givesWay, closing, finalLength}
+use Rattle.meaning.specs.Requests.{emptying, goodChannel, wordOf, givesWay, overProtected, closing, finalLength}
 use Rattle.meaning.specs.Batch.{serve}
 use Rattle.meaning.specs.declared.Key.{Key}
 use Rattle.meaning.specs.declared.Key.the-variants.{File, Open}
@@ -28,7 +28,7 @@ use Rattle.rules.proofs.Keys.{one-key, empty-holds, is-open}
 use Rattle.rules.proofs.Soundness.{Sound, sound, faultless}
 use Rattle.laws.proofs.Move.{width-same}
 use Rattle.laws.proofs.Good.{Owned, mine, after, Owns}
-use Rattle.laws.proofs.Plans.{carried, done, testing, finding, closedPlan, deletePlan, abandonPlan, renamePlan, closePlan}
+use Rattle.laws.proofs.Plans.{carried, done, testing, finding, closedPlan, deletePlan, restatePlan, abandonPlan, renamePlan, closePlan}
 use Rattle.laws.proofs.Deeds.{file-key, open-key, found-by, openAt, CloseNames, AbandonNames, open-at}
 use Rattle.laws.proofs.Served.{planBy, plan, plan-good, plan-found, plan-kept, served, serve-words}
 
@@ -60,6 +60,8 @@ named-open Abandon d q y n =
     let x = abandon-names (wordOf (q .job) (q .channel)) y (openAt d (q .job) (q .channel)) n in
     (x .1 .0, ap (openOn d) (sym (x .0)) ∙ opened d (q .job) (q .channel) (x .1 .0) (x .1 .1))
 named-open Delete d q y n = absurd (let z : _≡_ {A = ℕ} 0 1 = cc in omega arith)
+named-open Protect d q y n = absurd (let z : _≡_ {A = ℕ} 0 1 = cc in omega arith)
+named-open Unprotect d q y n = absurd (let z : _≡_ {A = ℕ} 0 1 = cc in omega arith)
 named-open Rename d q y (inl n) = absurd (let z : _≡_ {A = ℕ} 0 1 = cc in omega arith)
 named-open Rename d q y (inr n) = absurd (let z : _≡_ {A = ℕ} 0 1 = cc in omega arith)
 
@@ -152,15 +154,12 @@ module _ (v : ℕ) (d : List ℕ) (s : Sound v d) (p : Request) where
 
   closing-same : (D : Key → Type 0) → Disjoint (Names d p) D → (y : ℕ) → D (Open y) → (r : Row) → D (File (nameOf (r .entry)))
       → openOn d y ≡ some r
-      → (n : ℕ) → closing d1 r n ≡ closing d r n
-  unfolding closing givesWay
+      → (n : ℕ) → (closing d1 r n ≡ closing d r n) × (overProtected d1 (nameOf (r .entry)) ≡ overProtected d (nameOf (r .entry)))
+  unfolding closing givesWay overProtected
   closing-same D no-both y named r made e n =
       let g = plan-good v d s p in
-      rw (
-        width-same (Names d p) (g .fall) d d1 (g .move),
-        next-same D no-both y named r e,
-        file-same (nameOf (r .entry)) (λ m. no-both (File (nameOf (r .entry))) m made),
-      )
+      let f = file-same (nameOf (r .entry)) (λ m. no-both (File (nameOf (r .entry))) m made) in
+      (rw (width-same (Names d p) (g .fall) d d1 (g .move), next-same D no-both y named r e, f), rw f)
 
   close-same : (job ch : ℕ) → Disjoint (Names d p) (CloseNames (wordOf job ch) (openAt d job ch)) → (n : Option ℕ)
       → closePlan d1 job ch n ≡ closePlan d job ch n
@@ -175,7 +174,8 @@ module _ (v : ℕ) (d : List ℕ) (s : Sound v d) (p : Request) where
       closed-same i r e none = refl
       closed-same i r e (some m) =
           let x = close-named d job ch r i e in
-          rw (closing-same D no-both (wordOf job ch) (x .0) r (x .1) e m)
+          let c = closing-same D no-both (wordOf job ch) (x .0) r (x .1) e m in
+          rw (c .0, c .1)
 
       at-row : goodChannel job ch ≡ true → (o : Option Row) → openOn d (wordOf job ch) ≡ o
           → finding 15 o (λ r. closedPlan d1 r n) ≡ finding 15 o (λ r. closedPlan d r n)
@@ -205,12 +205,14 @@ module _ (v : ℕ) (d : List ℕ) (s : Sound v d) (p : Request) where
       go false i = refl
 
   same-by : (op : Op) (q : Request) → Disjoint (Names d p) (NamesBy op d q) → planBy op d1 q ≡ planBy op d q
-  unfolding deletePlan renamePlan openFor
+  unfolding deletePlan restatePlan renamePlan openFor
   same-by Lookup q no-both = refl
   same-by Enter q no-both = refl
   same-by Close q no-both = close-same (q .job) (q .channel) no-both (finalLength (q .«final_length»))
   same-by Abandon q no-both = abandon-same (q .job) (q .channel) no-both
   same-by Delete q no-both = rw (file-same (q .name) (λ n. no-both _ n refl))
+  same-by Protect q no-both = rw (file-same (q .name) (λ n. no-both _ n refl))
+  same-by Unprotect q no-both = rw (file-same (q .name) (λ n. no-both _ n refl))
   same-by Rename q no-both =
       rw (
         file-same (q .name) (λ n. no-both _ n (inl refl)),
@@ -234,6 +236,8 @@ module _ (v : ℕ) (d : List ℕ) (s : Sound v d) (p : Request) where
       (open-at-same _ no-both (q .job) (q .channel) (λ r i e. abandon-named d (q .job) (q .channel) r i e)) n
   back-by Delete q no-both k n = n
   back-by Rename q no-both k n = n
+  back-by Protect q no-both k n = n
+  back-by Unprotect q no-both k n = n
 
   pub names-back : (q : Request) → Apart d p q → (k : Key) → Names d1 q k → Names d q k
   unfolding Names Apart

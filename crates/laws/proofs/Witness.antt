@@ -1,6 +1,6 @@
--- Demand 3 speaks of something: a sound directory and a batch of a delete, a rename, a close that replaces a file, and an
--- abandon, none of them refused, that meets its side condition. And the condition leaves out nothing: a close and a delete of
--- the file that it makes do not commute, nor do two renames to one new name.
+-- Demand 3 speaks of something: a sound directory and a batch of a delete, a rename, a close that replaces a file, an abandon, a protect and
+-- an unprotect, none of them refused, that meets its side condition. And the condition leaves out nothing: a close and a delete of the file
+-- that it makes do not commute, nor do two renames to one new name, nor a protect and a delete of one file.
 use Prim.Native.Nat.{ℕ, _+_, _*_}
 use mathlib.Core.Path.{_≡_, refl, sym, ap, _∙_}
 use mathlib.Core.Logic.{_⊎_, inl, inr}
@@ -12,11 +12,11 @@ use borrow.Author.Tests.{eqb-false, not-true}
 use Rattle.bools.proofs.Bools.{both}
 use lib.IntN.{ℤ, pos}
 use Rattle.meaning.specs.declared.Op.{Op}
-use Rattle.meaning.specs.declared.Op.the-variants.{Close, Abandon, Delete, Rename}
+use Rattle.meaning.specs.declared.Op.the-variants.{Close, Abandon, Delete, Rename, Protect, Unprotect}
 use Rattle.meaning.specs.declared.Name.{Name}
 use Rattle.meaning.specs.declared.Request.{Request}
 use Rattle.meaning.specs.declared.Answer.{Answer}
-use Rattle.meaning.specs.Kinds.{tentativeStatus, emptyStatus, permanentStatus}
+use Rattle.meaning.specs.Kinds.{tentativeStatus, emptyStatus, permanentStatus, protectedStatus}
 use Rattle.meaning.specs.Sound.{fault}
 use Rattle.meaning.specs.Requests.{entryOf, emptyEntry}
 use Rattle.meaning.specs.Batch.{wordsAfter, answersTo}
@@ -24,17 +24,18 @@ use Rattle.meaning.specs.Examples.{oneSegment}
 use Rattle.meaning.proofs.Opened.{all-names, all-words, all-sound, all-requests}
 use Rattle.meaning.specs.declared.Key.{Key}
 use Rattle.meaning.specs.declared.Key.the-variants.{File, Open}
+use Rattle.walks.specs.Lists.{All, Pairwise}
 use Rattle.laws.specs.Order.{openFor, Names, Apart, Batch3, Ordered}
 use Rattle.laws.proofs.Demand3.{demand3}
 
--- the names DAY.CHG, and A, B, C, D as the first to fourth letter
+-- the names DAY.CHG, and A to F as the first to sixth letter
 abbrev dayChg : Name
 dayChg = record { first = 6465; second = 0; extension = 5127 }
 
 abbrev nameOfLetter : ℕ → Name
 nameOfLetter n = record { first = n * 1600; second = 0; extension = 0 }
 
--- files DAY.CHG, B and A; A being made anew on channel 3, C on channel 4
+-- files DAY.CHG, B, A and E, and F protected; A being made anew on channel 3, C on channel 4
 unfoldable pub d : List ℕ
 d =
     oneSegment
@@ -45,6 +46,8 @@ d =
     ∷ entryOf 7 permanentStatus (nameOfLetter 1) 7 0 0
     ∷ entryOf 7 tentativeStatus (nameOfLetter 3) 10 4 0
     ∷ emptyEntry 7 8
+    ∷ entryOf 7 permanentStatus (nameOfLetter 5) 0 0 0
+    ∷ entryOf 7 protectedStatus (nameOfLetter 6) 0 0 0
     ∷ [])
 
 abbrev asking : Op → Name → ℕ → ℤ → Request
@@ -60,29 +63,36 @@ asking op name ch final =
       date = 0;
     }
 
--- delete DAY.CHG, rename B to D, close channel 3 at 12 blocks, abandon channel 4
-unfoldable pub fourRequests : List Request
-fourRequests =
+-- delete DAY.CHG, rename B to D, close channel 3 at 12 blocks, abandon channel 4, protect E, unprotect F
+unfoldable pub sixRequests : List Request
+sixRequests =
     asking Delete dayChg 0 (pos 0)
     ∷ asking Rename (nameOfLetter 2) 0 (pos 0)
     ∷ asking Close dayChg 3 (pos 12)
     ∷ asking Abandon dayChg 4 (pos 0)
+    ∷ asking Protect (nameOfLetter 5) 0 (pos 0)
+    ∷ asking Unprotect (nameOfLetter 6) 0 (pos 0)
     ∷ []
 
 -- the directory is sound; none is refused; word 12, a status, after a delete of A and the close, in either order; word 27, of a
--- name, after B and DAY.CHG are renamed to D, in either order
+-- name, after B and DAY.CHG are renamed to D, in either order; word 26, B's status, after a protect and a delete, in either order
 unfoldable pub computed : List ℕ
 computed =
     fault 100 d
-    ∷ map (λ (a : Answer). a .number) (answersTo 100 d fourRequests)
+    ∷ map (λ (a : Answer). a .number) (answersTo 100 d sixRequests)
     ++ getD (wordsAfter 100 d (asking Delete (nameOfLetter 1) 0 (pos 0) ∷ asking Close dayChg 3 (pos 12) ∷ [])) 12 0
     ∷ getD (wordsAfter 100 d (asking Close dayChg 3 (pos 12) ∷ asking Delete (nameOfLetter 1) 0 (pos 0) ∷ [])) 12 0
     ∷ getD (wordsAfter 100 d (asking Rename (nameOfLetter 2) 0 (pos 0) ∷ asking Rename dayChg 0 (pos 0) ∷ [])) 27 0
     ∷ getD (wordsAfter 100 d (asking Rename dayChg 0 (pos 0) ∷ asking Rename (nameOfLetter 2) 0 (pos 0) ∷ [])) 27 0
+    ∷ getD (wordsAfter 100 d (asking Protect (nameOfLetter 2) 0 (pos 0) ∷ asking Delete (nameOfLetter 2) 0 (pos 0) ∷ [])) 26 0
+    ∷ getD (wordsAfter 100 d (asking Delete (nameOfLetter 2) 0 (pos 0) ∷ asking Protect (nameOfLetter 2) 0 (pos 0) ∷ [])) 26 0
     ∷ []
 
-pub comes-to : computed ≡ 0 ∷ 0 ∷ 0 ∷ 0 ∷ 0 ∷ permanentStatus ∷ emptyStatus ∷ nameOfLetter 4 .first ∷ nameOfLetter 2 .first ∷ []
-unfolding computed d fourRequests all-names all-words all-sound all-requests
+pub comes-to :
+    computed
+    ≡ 0 ∷ 0 ∷ 0 ∷ 0 ∷ 0 ∷ 0 ∷ 0
+    ∷ permanentStatus ∷ emptyStatus ∷ nameOfLetter 4 .first ∷ nameOfLetter 2 .first ∷ protectedStatus ∷ emptyStatus ∷ []
+unfolding computed d sixRequests all-names all-words all-sound all-requests
 comes-to = refl
 
 pub is-sound : fault 100 d ≡ 0
@@ -130,6 +140,12 @@ byClose = Open 3 ∷ File (nameOfLetter 1) ∷ []
 byAbandon : List Key
 byAbandon = Open 4 ∷ []
 
+byProtect : List Key
+byProtect = File (nameOfLetter 5) ∷ []
+
+byUnprotect : List Key
+byUnprotect = File (nameOfLetter 6) ∷ []
+
 by-delete : (k : Key) → Names d (asking Delete dayChg 0 (pos 0)) k → Of k byDelete
 unfolding Names byDelete
 by-delete k n = inl n
@@ -148,29 +164,54 @@ by-abandon : (k : Key) → Names d (asking Abandon dayChg 4 (pos 0)) k → Of k 
 unfolding byAbandon d Names openFor all-words all-requests
 by-abandon k n = inl n
 
-pub is-batch : Batch3 d fourRequests
-unfolding fourRequests Apart byDelete byRename byClose byAbandon
+by-protect : (k : Key) → Names d (asking Protect (nameOfLetter 5) 0 (pos 0)) k → Of k byProtect
+unfolding Names byProtect
+by-protect k n = inl n
+
+by-unprotect : (k : Key) → Names d (asking Unprotect (nameOfLetter 6) 0 (pos 0)) k → Of k byUnprotect
+unfolding Names byUnprotect
+by-unprotect k n = inl n
+
+-- requests that name no more than the keys of a list each, where no two lists have a common one
+abbrev NamesOf : List Request → List (List Key) → Type 0
+NamesOf [] ls = Unit {0}
+NamesOf (q ∷ qs) [] = ⊥
+NamesOf (q ∷ qs) (l ∷ ls) = ((k : Key) → Names d q k → Of k l) × NamesOf qs ls
+
+abbrev one-apart : List Key → List (List Key) → Bool
+one-apart l [] = true
+one-apart l (m ∷ ms) = none-shared l m && one-apart l ms
+
+abbrev all-apart : List (List Key) → Bool
+all-apart [] = true
+all-apart (l ∷ ls) = one-apart l ls && all-apart ls
+
+one-is : (p : Request) (l : List Key) → ((k : Key) → Names d p k → Of k l) → (qs : List Request) (ls : List (List Key)) → NamesOf qs ls
+    → one-apart l ls ≡ true → All (Apart d p) qs
+unfolding Apart
+one-is p l f [] ls n h = tt
+one-is p l f (q ∷ qs) [] n h = absurd n
+one-is p l f (q ∷ qs) (m ∷ ms) n h =
+    let b = both (none-shared l m) (one-apart l ms) h in
+    ((λ k x y. none-common l m (b .0) k (f k x) (n .0 k y)), one-is p l f qs ms (n .1) (b .1))
+
+all-are : (qs : List Request) (ls : List (List Key)) → NamesOf qs ls → all-apart ls ≡ true → Pairwise (Apart d) qs
+all-are [] ls n h = tt
+all-are (q ∷ qs) [] n h = absurd n
+all-are (q ∷ qs) (l ∷ ls) n h =
+    let b = both (one-apart l ls) (all-apart ls) h in
+    (one-is q l (n .0) qs ls (n .1) (b .0), all-are qs ls (n .1) (b .1))
+
+pub is-batch : Batch3 d sixRequests
+unfolding sixRequests byDelete byRename byClose byAbandon byProtect byUnprotect
 is-batch =
     record {
-      kinds = (tt, (tt, (tt, (tt, tt))));
-      apart = (
-        (
-          (λ k n m. none-common byDelete byRename refl k (by-delete k n) (by-rename k m)),
-          (
-            (λ k n m. none-common byDelete byClose refl k (by-delete k n) (by-close k m)),
-            ((λ k n m. none-common byDelete byAbandon refl k (by-delete k n) (by-abandon k m)), tt),
-          ),
-        ),
-        (
-          (
-            (λ k n m. none-common byRename byClose refl k (by-rename k n) (by-close k m)),
-            ((λ k n m. none-common byRename byAbandon refl k (by-rename k n) (by-abandon k m)), tt),
-          ),
-          (((λ k n m. none-common byClose byAbandon refl k (by-close k n) (by-abandon k m)), tt), (tt, tt)),
-        ),
-      );
+      kinds = (tt, (tt, (tt, (tt, (tt, (tt, tt))))));
+      apart =
+          all-are sixRequests (byDelete ∷ byRename ∷ byClose ∷ byAbandon ∷ byProtect ∷ byUnprotect ∷ [])
+          (by-delete, (by-rename, (by-close, (by-abandon, (by-protect, (by-unprotect, tt)))))) refl;
     }
 
 -- so demand 3 says of it that every order of it gives the same
-pub any-order : (rs : List Request) → List·Permᴰ fourRequests rs → Ordered 100 d fourRequests rs
-any-order rs p = demand3 100 d is-sound .order fourRequests rs is-batch p
+pub any-order : (rs : List Request) → List·Permᴰ sixRequests rs → Ordered 100 d sixRequests rs
+any-order rs p = demand3 100 d is-sound .order sixRequests rs is-batch p

@@ -1,5 +1,6 @@
 -- Demand 2, *Kept*: each request leaves a sound directory sound for the same V, and so does a fresh start; what lookup answers
--- afterwards for the name concerned, and that for every other name it answers as before; and every FILE.BAD stays (proofs/Kept.antt).
+-- afterwards for the name concerned, and that for every other name it answers as before; every FILE.BAD stays; and so does a protected file
+-- (document 02, Req 06), until it is unprotected (proofs/Kept.antt, proofs/Guarded.antt).
 use Prim.Native.Nat.{ℕ}
 use mathlib.Core.Path.{_≡_}
 use mathlib.Core.Logic.{_⊎_}
@@ -7,16 +8,20 @@ use mathlib.Core.Bool.{true, false}
 use mathlib.Core.Option.{some}
 use mathlib.Core.List.{List, [], _∷_}
 use lib.IntN.{ℤ}
+use lib.ListN.{getD, set}
+use Rattle.meaning.specs.declared.Op.the-variants.{Unprotect}
 use Rattle.meaning.specs.declared.Name.{Name}
 use Rattle.meaning.specs.declared.Key.the-variants.{File}
 use Rattle.meaning.specs.declared.Request.{Request}
 use Rattle.meaning.specs.declared.Answer.{Answer}
-use Rattle.meaning.specs.Words.{Entry, nameOf, blocks, dateOf, Row, rows}
+use Rattle.meaning.specs.Kinds.{permanentStatus, protectedStatus}
+use Rattle.meaning.specs.Words.{Entry, statusWord, nameOf, protected, blocks, dateOf, Row, rows}
 use Rattle.meaning.specs.Keys.{keyOf, fileBad}
 use Rattle.meaning.specs.Sound.{fault}
-use Rattle.meaning.specs.Answers.{refusal, openOn}
-use Rattle.meaning.specs.Requests.{legal, lookup, delete, abandon, rename, close, fresh, wordOf}
-use Rattle.meaning.specs.Batch.{serve}
+use Rattle.meaning.specs.Answers.{Outcome, refusal, fileOf, openOn}
+use Rattle.meaning.specs.Requests.{legal, lookup, delete, protect, unprotect, abandon, rename, close, fresh, wordOf}
+use Rattle.meaning.specs.Batch.{serve, wordsAfter}
+use Rattle.walks.specs.Lists.{All}
 use Rattle.laws.specs.Order.{filesOf}
 
 -- for every other name lookup answers as before
@@ -40,6 +45,18 @@ pub record KeptByRename (v : ℕ) (d : List ℕ) (old new : Name) : Type 0 where
   pub given : rename v d old new .answer .number ≡ 0 → lookup v (rename v d old new .words) new .answer ≡ lookup v d old .answer
   pub gone : rename v d old new .answer .number ≡ 0 → lookup v (rename v d old new .words) old .answer ≡ refusal 13
   pub others : (n : Name) → (n ≡ old → ⊥) → (n ≡ new → ⊥) → lookup v (rename v d old new .words) n .answer ≡ lookup v d n .answer
+
+-- a row, but for its entry's status
+abbrev pub withStatus : Row → ℕ → Row
+withStatus r status = record { seg = r .seg; slot = r .slot; at = r .at; first = r .first; entry = set (r .entry) statusWord status }
+
+-- a protect or an unprotect, whose outcome is o: every name as before; where it succeeds its file has the status, and is the same but for
+-- that; and where the file has the status already nothing is changed
+pub record KeptByStatus (v : ℕ) (d : List ℕ) (name : Name) (status : ℕ) (o : Outcome) : Type 0 where
+  pub sound : fault v (o .words) ≡ 0
+  pub all : (n : Name) → lookup v (o .words) n .answer ≡ lookup v d n .answer
+  pub stated : (r : Row) → fileOf d name ≡ some r → o .answer .number ≡ 0 → fileOf (o .words) name ≡ some (withStatus r status)
+  pub already : (r : Row) → fileOf d name ≡ some r → getD (r .entry) statusWord 0 ≡ status → o .words ≡ d
 
 -- somewhere among these rows stands this entry, with this first block
 abbrev pub Present : List Row → ℕ → Entry → Type 0
@@ -83,12 +100,31 @@ AllStay (r ∷ rs) (s ∷ ss) = ((r .first ≡ s .first) × (r .entry ≡ s .ent
 abbrev pub BadStays : List ℕ → List ℕ → Type 0
 BadStays d after = AllStay (filesOf d fileBad) (filesOf after fileBad)
 
+-- a request is to unprotect the file of this name
+abbrev pub Unprotects : Name → Request → Type 0
+Unprotects n q = (q .op ≡ Unprotect) × (q .name ≡ n)
+
+-- after some requests a file still stands, with the same words, and so the same status, length and date, from the same block on; and lookup
+-- answers it as before, unless it is a FILE.BAD, of which lookup finds the first
+pub record StillThere (v : ℕ) (d : List ℕ) (qs : List Request) (first : ℕ) (e : Entry) : Type 0 where
+  pub present : Present (rows (wordsAfter v d qs)) first e
+  pub answer : (nameOf e ≡ fileBad → ⊥) → lookup v (wordsAfter v d qs) (nameOf e) .answer ≡ lookup v d (nameOf e) .answer
+
+-- a protected file stays through any requests, none of which unprotects it
+abbrev pub ProtectedStays : ℕ → List ℕ → Type 0
+ProtectedStays v d =
+    (qs : List Request) (first : ℕ) (e : Entry) → Present (rows d) first e → protected e ≡ true
+    → All (λ (q : Request). Unprotects (nameOf e) q → ⊥) qs → StillThere v d qs first e
+
 -- each on a sound directory; every request of a batch, enter too; and a fresh start that succeeds, on any words
 pub record Kept (v : ℕ) : Type 0 where
   pub deletes : (d : List ℕ) → fault v d ≡ 0 → (name : Name) → KeptByDelete v d name
   pub abandons : (d : List ℕ) → fault v d ≡ 0 → (job channel : ℕ) → KeptByAbandon v d job channel
   pub renames : (d : List ℕ) → fault v d ≡ 0 → (old new : Name) → KeptByRename v d old new
+  pub protects : (d : List ℕ) → fault v d ≡ 0 → (name : Name) → KeptByStatus v d name protectedStatus (protect v d name)
+  pub unprotects : (d : List ℕ) → fault v d ≡ 0 → (name : Name) → KeptByStatus v d name permanentStatus (unprotect v d name)
   pub closes : (d : List ℕ) → fault v d ≡ 0 → (job channel : ℕ) (final : ℤ) → KeptByClose v d job channel final
   pub requests : (d : List ℕ) → fault v d ≡ 0 → (q : Request) → fault v (serve v d q .words) ≡ 0
   pub bads : (d : List ℕ) → fault v d ≡ 0 → (q : Request) → BadStays d (serve v d q .words)
+  pub guarded : (d : List ℕ) → fault v d ≡ 0 → ProtectedStays v d
   pub starts : (d : List ℕ) (extra : ℕ) → fresh v d extra .answer .number ≡ 0 → KeptByFresh v (fresh v d extra .words)

@@ -1,6 +1,6 @@
--- Demand 3: a batch of deletes, renames, closes and abandons, no two naming the same file or the same open channel, gives each request
--- the same answer and ends in the same words in every order; files that none names are kept, and the lengths still add up
--- (proofs/Demand3.antt).
+-- Demand 3: a batch of deletes, renames, closes and abandons, and of protects and unprotects (document 02, Req 06), no two naming the same
+-- file or the same open channel, gives each request the same answer and ends in the same words in every order; files that none names are
+-- kept, and the lengths still add up (proofs/Demand3.antt).
 use Prim.Native.Nat.{ℕ, _-_}
 use mathlib.Core.Path.{_≡_}
 use mathlib.Core.Logic.{_⊎_}
@@ -8,7 +8,7 @@ use mathlib.Core.Bool.{Bool, cond}
 use mathlib.Core.List.{List, [], _∷_, List·Permᴰ}
 use mathlib.Core.Option.{Option, none, some}
 use Rattle.meaning.specs.declared.Op.{Op}
-use Rattle.meaning.specs.declared.Op.the-variants.{Lookup, Enter, Close, Abandon, Delete, Rename}
+use Rattle.meaning.specs.declared.Op.the-variants.{Lookup, Enter, Close, Abandon, Delete, Rename, Protect, Unprotect}
 use Rattle.meaning.specs.declared.Name.{Name}
 use Rattle.meaning.specs.declared.Key.{Key}
 use Rattle.meaning.specs.declared.Key.the-variants.{File, Open}
@@ -30,6 +30,8 @@ InBatch Close = Unit {0}
 InBatch Abandon = Unit {0}
 InBatch Delete = Unit {0}
 InBatch Rename = Unit {0}
+InBatch Protect = Unit {0}
+InBatch Unprotect = Unit {0}
 
 -- the tentative entry on a request's channel, where it is a channel and is open
 unfoldable pub openFor : List ℕ → Request → Option Row
@@ -39,8 +41,9 @@ abbrev pub OnOpen : Option Row → (Row → Type 0) → Type 0
 OnOpen none P = ⊥
 OnOpen (some r) P = P r
 
--- What a request names, by its key. A delete names its file; a rename both its names; a close and an abandon their channel, if it is open;
--- a close also the file that its open channel is to make, even where the close is refused, and no file where nothing is open on it
+-- What a request names, by its key. A delete, a protect and an unprotect name their file; a rename both its names; a close and an abandon
+-- their channel, if it is open; a close also the file that its open channel is to make, even where the close is refused, and no file where
+-- nothing is open on it
 abbrev pub NamesBy : Op → List ℕ → Request → Key → Type 0
 NamesBy Lookup d q k = ⊥
 NamesBy Enter d q k = ⊥
@@ -48,6 +51,8 @@ NamesBy Close d q k = OnOpen (openFor d q) λ r. (k ≡ Open (wordOf (q .job) (q
 NamesBy Abandon d q k = OnOpen (openFor d q) λ r. k ≡ Open (wordOf (q .job) (q .channel))
 NamesBy Delete d q k = k ≡ File (q .name)
 NamesBy Rename d q k = (k ≡ File (q .name)) ⊎ (k ≡ File (q .«new_name»))
+NamesBy Protect d q k = k ≡ File (q .name)
+NamesBy Unprotect d q k = k ≡ File (q .name)
 
 unfoldable pub Names : List ℕ → Request → Key → Type 0
 Names d q k = NamesBy (q .op) d q k

@@ -5,7 +5,7 @@ use mathlib.Core.Path.{_≡_}
 use mathlib.Core.Logic.{_⊎_}
 use mathlib.Core.List.{List, [], _∷_, _++_}
 use Rattle.meaning.specs.declared.Op.{Op}
-use Rattle.meaning.specs.declared.Op.the-variants.{Lookup, Enter, Close, Abandon, Delete, Rename}
+use Rattle.meaning.specs.declared.Op.the-variants.{Lookup, Enter, Close, Abandon, Delete, Rename, Protect, Unprotect}
 use Rattle.meaning.specs.declared.Request.{Request}
 use Rattle.meaning.specs.Answers.{Outcome, refusal}
 use Rattle.meaning.specs.Requests.{fresh}
@@ -17,16 +17,18 @@ faults = 1 ∷ 2 ∷ 3 ∷ 4 ∷ 5 ∷ 6 ∷ []
 
 -- the refusals of enter that are tested before those for room
 abbrev pub beforeRoom : List ℕ
-beforeRoom = 7 ∷ 19 ∷ 8 ∷ 9 ∷ 10 ∷ []
+beforeRoom = 7 ∷ 19 ∷ 8 ∷ 9 ∷ 10 ∷ 20 ∷ []
 
--- the refusals that document 01's table lists for a request, and 19 of document 02, in the order in which they are tested
+-- the refusals that document 01's table lists for a request, and 19 and 20 of document 02, in the order in which they are tested
 abbrev pub asked : Op → List ℕ
 asked Lookup = 7 ∷ 13 ∷ []
 asked Enter = beforeRoom ++ 11 ∷ 12 ∷ []
-asked Close = 8 ∷ 15 ∷ 16 ∷ []
+asked Close = 8 ∷ 15 ∷ 16 ∷ 20 ∷ []
 asked Abandon = 8 ∷ 15 ∷ []
-asked Delete = 7 ∷ 19 ∷ 13 ∷ []
-asked Rename = 7 ∷ 19 ∷ 13 ∷ 14 ∷ []
+asked Delete = 7 ∷ 19 ∷ 13 ∷ 20 ∷ []
+asked Rename = 7 ∷ 19 ∷ 13 ∷ 20 ∷ 14 ∷ []
+asked Protect = 7 ∷ 19 ∷ 13 ∷ []
+asked Unprotect = 7 ∷ 19 ∷ 13 ∷ []
 
 -- a number stands in a list
 abbrev pub Among : ℕ → List ℕ → Type 0

@@ -6,14 +6,15 @@ use Rattle.names.specs.Radix.{padded, legalText, spells, legalName, wordsOfText
 use Rattle.dates.specs.Dates.{years, monthLengths, isLeap, daysIn, inCalendar, packedDay, dayField, monthField, namesDay}
 use Rattle.dates.specs.Dates.{goodDate, wordOfDay, dayOfWord}
 use Rattle.meaning.specs.Kinds.{kindOf}
-use Rattle.meaning.specs.Words.{segment, capacity, sameName, chunks, slots, upto, entries, total, chainFrom, reached, chain}
+use Rattle.meaning.specs.Words.{protected, segment, capacity, sameName, chunks, slots, upto, entries, total, chainFrom, reached, chain}
 use Rattle.meaning.specs.Words.{rowsIn, segmentRows, rowsOf, rows, entriesOf, allEntries}
 use Rattle.meaning.specs.Keys.{keyOf, holds, spared, once, clash}
 use Rattle.meaning.specs.Sound.{any, bad1, bad2, times, eachOnce, differs, bad3, unmarked, longName, badName, beginsEmpty}
 use Rattle.meaning.specs.Sound.{alone, badSlots, bad4, filled, bad5, clashes, bad6, fault}
 use Rattle.meaning.specs.Answers.{refuse, success, find, fileOf, openOn, write}
-use Rattle.meaning.specs.Requests.{successWith, lookup, emptying, delete, channelLimit, goodChannel, abandon, renaming, rename}
-use Rattle.meaning.specs.Requests.{replacing, givesWay, closing, finalLength, close, entryOf, flat, render, freshWords, fresh}
+use Rattle.meaning.specs.Requests.{successWith, lookup, emptying, delete, restating, restate, protect, unprotect, channelLimit, goodChannel, abandon}
+use Rattle.meaning.specs.Requests.{renaming, rename, replacing, givesWay, overProtected, closing, finalLength, close, entryOf, flat, render}
+use Rattle.meaning.specs.Requests.{freshWords, fresh}
 use Rattle.meaning.specs.Enter.{sizeOf, joined, dropZero, tidy, withSegment, headerOf, hasRun, hasZero, untidy}
 use Rattle.meaning.specs.Enter.{tidiedAt, tidied, costAfter, hasRoom}
 use Rattle.meaning.specs.Enter.{areasIn, areas, eligibles, longestOf, without, secondOf, wanted, atLeast, longEnough, firstFit}
@@ -32,7 +33,7 @@ unfolding years monthLengths isLeap daysIn inCalendar packedDay dayField monthFi
 all-dates = tt
 
 unfoldable pub all-words : Unit {0}
-unfolding kindOf segment capacity sameName chunks slots upto entries total chainFrom reached chain rowsIn segmentRows rowsOf rows
+unfolding kindOf protected segment capacity sameName chunks slots upto entries total chainFrom reached chain rowsIn segmentRows rowsOf rows
     entriesOf allEntries keyOf holds spared once clash
 all-words = tt
 
@@ -42,8 +43,9 @@ unfolding any bad1 bad2 times eachOnce differs bad3 unmarked longName badName be
 all-sound = tt
 
 unfoldable pub all-requests : Unit {0}
-unfolding refuse success find fileOf openOn write successWith lookup emptying delete channelLimit goodChannel abandon renaming rename
-    replacing givesWay closing finalLength close entryOf flat render freshWords fresh serve wordsAfter answersTo batch
+unfolding refuse success find fileOf openOn write successWith lookup emptying delete restating restate protect unprotect channelLimit
+    goodChannel abandon renaming rename replacing givesWay overProtected closing finalLength close entryOf flat render freshWords fresh serve
+    wordsAfter answersTo batch
 all-requests = tt
 
 unfoldable pub all-enter : Unit {0}

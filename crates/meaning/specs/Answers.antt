@@ -8,7 +8,7 @@ use lib.ListN.{set}
 use Rattle.meaning.specs.declared.Answer.{Answer}
 use Rattle.meaning.specs.declared.Name.{Name}
 use Rattle.meaning.specs.declared.Key.the-variants.{File, Open}
-use Rattle.meaning.specs.Words.{Entry, Row, rows}
+use Rattle.meaning.specs.Words.{Entry, protected, Row, rows}
 use Rattle.meaning.specs.Keys.{holds}
 use Rattle.meaning.specs.Sound.{fault}
 
@@ -64,6 +64,11 @@ find p (r ∷ rs) = let f = find p rs in cond (p (r .entry)) (some r) f
 abbrev pub isNone : {A : Type 0} → Option A → Bool
 isNone none = true
 isNone (some a) = false
+
+-- the row found, if any, is that of a protected file
+abbrev pub isProtected : Option Row → Bool
+isProtected none = false
+isProtected (some r) = protected (r .entry)
 
 -- the permanent file of a name; where several are spared, the first
 unfoldable pub fileOf : List ℕ → Name → Option Row

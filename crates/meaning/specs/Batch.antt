@@ -5,11 +5,11 @@ use mathlib.Core.List.{List, [], _∷_}
 use lib.ListN.{length}
 use lib.Dec.{eqb}
 use Rattle.meaning.specs.declared.Op.{Op}
-use Rattle.meaning.specs.declared.Op.the-variants.{Lookup, Enter, Close, Abandon, Delete, Rename}
+use Rattle.meaning.specs.declared.Op.the-variants.{Lookup, Enter, Close, Abandon, Delete, Rename, Protect, Unprotect}
 use Rattle.meaning.specs.declared.Request.{Request}
 use Rattle.meaning.specs.declared.Answer.{Answer}
 use Rattle.meaning.specs.Answers.{Outcome}
-use Rattle.meaning.specs.Requests.{lookup, delete, abandon, rename, close}
+use Rattle.meaning.specs.Requests.{lookup, delete, protect, unprotect, abandon, rename, close}
 use Rattle.meaning.specs.Enter.{enter}
 
 -- what each kind of request record asks for
@@ -20,6 +20,8 @@ serveBy Close v d q = close v d (q .job) (q .channel) (q .«final_length»)
 serveBy Abandon v d q = abandon v d (q .job) (q .channel)
 serveBy Delete v d q = delete v d (q .name)
 serveBy Rename v d q = rename v d (q .name) (q .«new_name»)
+serveBy Protect v d q = protect v d (q .name)
+serveBy Unprotect v d q = unprotect v d (q .name)
 
 unfoldable pub serve : ℕ → List ℕ → Request → Outcome
 serve v d q = serveBy (q .op) v d q

@@ -14,7 +14,7 @@ use Rattle.meaning.specs.Words.{lengthWord, kind, blocks, entries, total
 use Rattle.meaning.specs.Keys.{spared}
 use Rattle.meaning.specs.Sound.{any, beginsEmpty}
 use Rattle.meaning.specs.Answers.{Outcome, refuse, success, ifSound, unless, isNone, openOn}
-use Rattle.meaning.specs.Requests.{legal, goodChannel, wordOf, entryOf, emptyEntry, render}
+use Rattle.meaning.specs.Requests.{legal, goodChannel, wordOf, overProtected, entryOf, emptyEntry, render}
 
 -- A size is -1 for the longest, 0 for RT-11's default, or 1 to 65,535 blocks; any other is wrong
 pub data Size : Type 0 where
@@ -240,6 +240,7 @@ enter v d name asked job channel date =
     unless 8 (goodChannel job channel) d λ _.
     unless 9 (goodSize size && goodDate date) d λ _.
     unless 10 (isNone (openOn d x)) d λ _.
+    unless 20 (not (overProtected d name)) d λ _.
     unless 11 (longEnough (atLeast size) all) d λ _.
     unless 12 (longEnough (atLeast size) fit) d λ _.
     placed d t n date new (firstFit n fit)

@@ -11,7 +11,7 @@ use Rattle.names.specs.Text.{bytes}
 use Rattle.names.specs.Radix.{wordsOfText}
 use Rattle.dates.specs.Dates.{wordOfDay}
 use Rattle.meaning.specs.declared.Op.{Op}
-use Rattle.meaning.specs.declared.Op.the-variants.{Lookup, Enter, Close, Delete, Rename}
+use Rattle.meaning.specs.declared.Op.the-variants.{Lookup, Enter, Close, Delete, Rename, Protect, Unprotect}
 use Rattle.meaning.specs.declared.Name.{Name}
 use Rattle.meaning.specs.declared.Request.{Request}
 use Rattle.meaning.specs.declared.Answer.{Answer}
@@ -85,6 +85,12 @@ askLookup name = ask Lookup name name 0 0 (pos 0) (pos 0) 0
 abbrev pub askRename : String → String → Ask
 askRename old new = ask Rename old new 0 0 (pos 0) (pos 0) 0
 
+abbrev pub askProtect : String → Ask
+askProtect name = ask Protect name name 0 0 (pos 0) (pos 0) 0
+
+abbrev pub askUnprotect : String → Ask
+askUnprotect name = ask Unprotect name name 0 0 (pos 0) (pos 0) 0
+
 -- carried out, with the entry's first block, length and date; or refused by a number
 abbrev pub gives : Ask → ℕ → ℕ → ℕ → Step
 gives a first length date = record { ask = a; number = 0; first = first; length = length; date = date }
@@ -154,6 +160,10 @@ fileNamed t length = entryOf 7 permanentStatus (nameIn t) length 0 0
 abbrev pub openNamed : String → ℕ → ℕ → Entry
 openNamed t length channel = entryOf 7 tentativeStatus (nameIn t) length channel 0
 
+-- a file with this status, which is written out here
+abbrev pub fileWith : ℕ → String → ℕ → Entry
+fileWith status t length = entryOf 7 status (nameIn t) length 0 0
+
 -- two segments in use, the second with other numbers in the word where segment 1 has H
 abbrev pub twoSegments : List ℕ
 twoSegments = render (2 ∷ 2 ∷ 2 ∷ 0 ∷ 10 ∷ []) (area 5 ∷ []) ++ render (2 ∷ 0 ∷ 77 ∷ 0 ∷ 15 ∷ []) (area 5 ∷ [])
@@ -174,7 +184,9 @@ fullSegment =
 -- the ages, and 16,384, which is an age alone and no date; requests that touch no file that they don't name, though it shares a name word
 -- or stands next; a split that parts no tentative entry from its area; and FILE.BAD: two and three are sound, and of no other name two,
 -- though it shares two words with it; lookup finds the first; 19 comes after 7 and before 8 and 13, where there is none, too; and a close
--- leaves every other one
+-- leaves every other one; and protected files: 33,792 is a permanent entry, 33,024 and the protection bit in any other status are not; 20
+-- comes after 13, 16 and 10, and before 14 and 11; a rename to a protected name gets 14; what is unprotected again goes; and a protected
+-- FILE.BAD is a FILE.BAD
 unfoldable pub slips : List Case
 slips =
     faulty 100 (oneSegment (file 1600 65535 ∷ file 3200 93 ∷ [])) 5
@@ -286,6 +298,44 @@ slips =
     ∷ run 100 (oneSegment (openNamed "FILE  BAD" 20 3 ∷ area 20 ∷ fileNamed "FILE  BAD" 10 ∷ area 42 ∷ []))
     (gives (askLookup "FILE  BAD") 48 10 0 ∷ gives (askClose 0 3 (pos 20)) 8 20 0 ∷ gives (askLookup "FILE  BAD") 8 20 0 ∷ [])
     (20 ∷ 20 ∷ 10 ∷ 42 ∷ [])
+    ∷ faulty 100 (oneSegment (fileWith 33792 "A        " 50 ∷ area 42 ∷ [])) 0
+    ∷ faulty 100 (oneSegment (fileWith 33792 "A        " 50 ∷ fileNamed "A        " 42 ∷ [])) 6
+    ∷ faulty 100 (oneSegment (fileWith 33024 "A        " 50 ∷ area 42 ∷ [])) 4
+    ∷ faulty 100 (oneSegment (fileWith 33280 "A        " 50 ∷ area 42 ∷ [])) 4
+    ∷ faulty 100 (oneSegment (fileWith 34816 "A        " 50 ∷ area 42 ∷ [])) 4
+    ∷ faulty 100 (oneSegment (fileWith 32768 "A        " 50 ∷ area 42 ∷ [])) 4
+    ∷ run 100 (oneSegment (fileNamed "A        " 50 ∷ openNamed "A        " 20 3 ∷ area 22 ∷ []))
+    (gets (askProtect "a        ") 7
+    ∷ gets (askProtect "FILE  BAD") 19
+    ∷ gets (askUnprotect "FILE  BAD") 19
+    ∷ gets (askProtect "B        ") 13
+    ∷ gives (askProtect "A        ") 8 50 0
+    ∷ gives (askProtect "A        ") 8 50 0
+    ∷ gives (askLookup "A        ") 8 50 0
+    ∷ gets (askDelete "A        ") 20
+    ∷ gets (askRename "A        " "B        ") 20
+    ∷ gets (askRename "A        " "A        ") 20
+    ∷ gets (askClose 0 3 (pos 21)) 16
+    ∷ gets (askClose 0 3 (pos 20)) 20
+    ∷ gets (askEnter "A        " (pos 99) 0 3 0) 10
+    ∷ gets (askEnter "A        " (pos 99) 0 4 0) 20
+    ∷ gives (askUnprotect "A        ") 8 50 0
+    ∷ gives (askUnprotect "A        ") 8 50 0
+    ∷ gives (askClose 0 3 (pos 15)) 58 15 0
+    ∷ gives (askDelete "A        ") 58 15 0
+    ∷ [])
+    (50 ∷ 15 ∷ 27 ∷ [])
+    ∷ run 100 (oneSegment (fileNamed "A        " 50 ∷ fileWith 33792 "B        " 20 ∷ area 22 ∷ []))
+    (gets (askRename "A        " "B        ") 14
+    ∷ gives (askEnter "C        " (pos 5) 0 3 0) 78 5 0
+    ∷ gives (askClose 0 3 (pos 5)) 78 5 0
+    ∷ gives (askUnprotect "B        ") 58 20 0
+    ∷ gives (askRename "B        " "D        ") 58 20 0
+    ∷ [])
+    (50 ∷ 20 ∷ 5 ∷ 17 ∷ [])
+    ∷ run 100 (oneSegment (fileWith 33792 "FILE  BAD" 10 ∷ openNamed "FILE  BAD" 20 3 ∷ area 20 ∷ fileWith 33792 "FILE  BAD" 42 ∷ []))
+    (gives (askClose 0 3 (pos 15)) 18 15 0 ∷ gets (askDelete "FILE  BAD") 19 ∷ gives (askLookup "FILE  BAD") 8 10 0 ∷ [])
+    (10 ∷ 15 ∷ 25 ∷ 42 ∷ [])
     ∷ []
 
 abbrev pub outcome : ℕ → List ℕ → Ask → Outcome

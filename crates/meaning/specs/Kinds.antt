@@ -1,6 +1,6 @@
--- The kind of an entry (document 01, "One segment").
+-- The kind of an entry (document 01, "One segment"), and protected files (document 02, Req 06).
 use Prim.Native.Nat.{ℕ}
-use mathlib.Core.Bool.{Bool, true, false, cond}
+use mathlib.Core.Bool.{Bool, true, false, cond, _||_}
 use lib.Dec.{eqb}
 use Rattle.meaning.specs.declared.Kind.{Kind}
 use Rattle.meaning.specs.declared.Kind.the-variants.{Tentative, Empty, Permanent, End, Unknown}
@@ -18,11 +18,16 @@ permanentStatus = 1024
 abbrev pub endStatus : ℕ
 endStatus = 2048
 
--- any other number is unknown
+-- a permanent entry may have later RT-11's protection bit too, octal 100000: 1024 + 32,768 (document 02, Req 06)
+abbrev pub protectedStatus : ℕ
+protectedStatus = 33792
+
+-- a protected entry is a permanent one; any other number is unknown
 unfoldable pub kindOf : ℕ → Kind
 kindOf status =
     cond (eqb status tentativeStatus) Tentative
-    (cond (eqb status emptyStatus) Empty (cond (eqb status permanentStatus) Permanent (cond (eqb status endStatus) End Unknown)))
+    (cond (eqb status emptyStatus) Empty
+    (cond (eqb status permanentStatus || eqb status protectedStatus) Permanent (cond (eqb status endStatus) End Unknown)))
 
 abbrev pub isTentative : Kind → Bool
 isTentative Tentative = true

@@ -1,4 +1,5 @@
--- The requests of document 01 but enter: each from V, the words and what is asked to the answer and the words after.
+-- The requests of document 01 but enter, and protect and unprotect of document 02: each from V, the words and what is asked to the answer
+-- and the words after.
 use Prim.Native.Nat.{ℕ, _+_, _*_, _-_}
 use mathlib.Core.Bool.{Bool, cond, _&&_, _||_, not}
 use mathlib.Core.List.{List, [], _∷_, _++_}
@@ -8,12 +9,12 @@ use lib.IntN.{ℤ, pos, negsuc}
 use lib.Dec.{eqb, leb}
 use Rattle.names.specs.Radix.{legalName}
 use Rattle.meaning.specs.declared.Name.{Name}
-use Rattle.meaning.specs.Kinds.{emptyStatus, permanentStatus, endStatus}
+use Rattle.meaning.specs.Kinds.{emptyStatus, permanentStatus, protectedStatus, endStatus}
 use Rattle.meaning.specs.Words.{segments, firstData, slotWords, Entry, Row}
-use Rattle.meaning.specs.Words.{statusWord, nameWord, name2Word, extensionWord, lengthWord, channelWord, nameOf, blocks, dateOf}
+use Rattle.meaning.specs.Words.{statusWord, nameWord, name2Word, extensionWord, lengthWord, channelWord, nameOf, protected, blocks, dateOf}
 use Rattle.meaning.specs.Keys.{spared}
 use Rattle.meaning.specs.Sound.{bad1}
-use Rattle.meaning.specs.Answers.{Outcome, refuse, success, ifSound, unless, onRow, isNone, fileOf, openOn, Write, put, write}
+use Rattle.meaning.specs.Answers.{Outcome, refuse, success, ifSound, unless, onRow, isNone, isProtected, fileOf, openOn, Write, put, write}
 
 -- a requested name
 abbrev pub legal : Name → Bool
@@ -35,14 +36,35 @@ lookup v d name =
 unfoldable pub emptying : Row → List Write
 emptying r = put (r .at) statusWord emptyStatus ∷ []
 
--- delete, rename (from it and to it) and enter are not for FILE.BAD: 19, straight after 7 (document 02, Req 03)
+-- delete, rename (from it and to it) and enter are not for FILE.BAD: 19, straight after 7 (document 02, Req 03). Nor are delete and rename
+-- for a protected file: 20, after 13 (document 02, Req 06)
 unfoldable pub delete : ℕ → List ℕ → Name → Outcome
 delete v d name =
     ifSound v d λ _.
     unless 7 (legal name) d λ _.
     unless 19 (not (spared name)) d λ _.
     onRow 13 (fileOf d name) d λ r.
+    unless 20 (not (protected (r .entry))) d λ _.
     successWith r (write d (emptying r))
+
+-- a file gets another status: that word alone, so that one which has it already stays as it is
+unfoldable pub restating : Row → ℕ → List Write
+restating r status = put (r .at) statusWord status ∷ []
+
+-- protect and unprotect are not for FILE.BAD either (document 02, Req 06)
+unfoldable pub restate : ℕ → List ℕ → Name → ℕ → Outcome
+restate v d file status =
+    ifSound v d λ _.
+    unless 7 (legal file) d λ _.
+    unless 19 (not (spared file)) d λ _.
+    onRow 13 (fileOf d file) d λ r.
+    successWith r (write d (restating r status))
+
+unfoldable pub protect : ℕ → List ℕ → Name → Outcome
+protect v d name = restate v d name protectedStatus
+
+unfoldable pub unprotect : ℕ → List ℕ → Name → Outcome
+unprotect v d name = restate v d name permanentStatus
 
 -- a job is background or foreground; a channel goes up to a limit (document 02, Req 07)
 unfoldable pub channelLimit : ℕ
@@ -70,13 +92,14 @@ renaming r new =
     ∷ put (r .at) extensionWord (new .extension)
     ∷ []
 
--- the file itself has its own name, so that a rename to it is refused by 14 too
+-- the file itself has its own name, so that a rename to it is refused by 14 too; and a rename to the name of a protected file, by 14 alone
 unfoldable pub rename : ℕ → List ℕ → Name → Name → Outcome
 rename v d old new =
     ifSound v d λ _.
     unless 7 (legal old && legal new) d λ _.
     unless 19 (not (spared old || spared new)) d λ _.
     onRow 13 (fileOf d old) d λ r.
+    unless 20 (not (protected (r .entry))) d λ _.
     unless 14 (isNone (fileOf d new)) d λ _.
     successWith r (write d (renaming r new))
 
@@ -88,6 +111,10 @@ replacing (some old) = emptying old
 -- the file that gives way to a new one of its name; a FILE.BAD gives way to none, as several may stand (document 02, Req 03)
 unfoldable pub givesWay : List ℕ → Name → Option Row
 givesWay d n = cond (spared n) none (fileOf d n)
+
+-- a new file of this name would come over a protected one (document 02, Req 06); a FILE.BAD comes over none
+unfoldable pub overProtected : List ℕ → Name → Bool
+overProtected d n = isProtected (givesWay d n)
 
 -- the entry becomes permanent with its final length, and the blocks that it gives back go to the area behind it
 unfoldable pub closing : List ℕ → Row → ℕ → List Write
@@ -104,11 +131,12 @@ unfoldable pub finalLength : ℤ → Option ℕ
 finalLength (pos n) = some n
 finalLength (negsuc n) = none
 
--- 16: the final length is no number of blocks, or more than was reserved
+-- 16: the final length is no number of blocks, or more than was reserved; then 20
 abbrev pub closed : List ℕ → Row → Option ℕ → Outcome
 closed d r none = refuse 16 d
 closed d r (some n) =
     unless 16 (leb n (blocks (r .entry))) d λ _.
+    unless 20 (not (overProtected d (nameOf (r .entry)))) d λ _.
     success (r .first) n (dateOf (r .entry)) (write d (closing d r n))
 
 unfoldable pub close : ℕ → List ℕ → ℕ → ℕ → ℤ → Outcome

@@ -11,7 +11,7 @@ use lib.ListN.{length, getD, take, drop}
 use lib.Dec.{eqb}
 use Rattle.meaning.specs.declared.Kind.{Kind}
 use Rattle.meaning.specs.declared.Name.{Name}
-use Rattle.meaning.specs.Kinds.{kindOf, isEnd}
+use Rattle.meaning.specs.Kinds.{protectedStatus, kindOf, isEnd}
 
 -- N: how many segments of 512 words the directory has
 abbrev pub segments : List ℕ → ℕ
@@ -87,6 +87,10 @@ dateWord = 6
 
 abbrev pub kind : Entry → Kind
 kind e = kindOf (getD e statusWord 0)
+
+-- a protected file, by its status
+unfoldable pub protected : Entry → Bool
+protected e = eqb (getD e statusWord 0) protectedStatus
 
 abbrev pub blocks : Entry → ℕ
 blocks e = getD e lengthWord 0

@@ -12,6 +12,9 @@ pub const PERMANENT: u16 = 1024;
 
 pub const END: u16 = 2048;
 
+// A permanent entry that is protected.
+pub const PROTECTED: u16 = 33792;
+
 // The highest channel of a job.
 pub const CHANNEL_LIMIT: u16 = 255;
 
@@ -32,6 +35,8 @@ pub enum Op {
     Abandon,
     Delete,
     Rename,
+    Protect,
+    Unprotect,
 }
 
 // A name as three words: six characters in two words, the extension in the third.

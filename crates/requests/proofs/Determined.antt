@@ -9,6 +9,8 @@ use Rattle.meaning.specs.declared.Answer.{Answer}
 use Rattle.meaning.specs.Answers.{Outcome, Meets}
 use Rattle.requests.proofs.delete.Reads as delete
 use Rattle.requests.proofs.rename.Reads as rename
+use Rattle.requests.proofs.protect.Reads as protect
+use Rattle.requests.proofs.unprotect.Reads as unprotect
 use Rattle.requests.proofs.abandon.Reads as abandon
 use Rattle.requests.proofs.close.Reads as close
 use Rattle.requests.proofs.enter.Reads as enter
@@ -23,6 +25,14 @@ delete-determined κs a r r′ s s′ p q = one-outcome r r′ _ _ _ p q
 pub rename-determined : (κs : _) (a : _) (r r′ : _) (s s′ : _) → rename.Post κs a r s → rename.Post κs a r′ s′
     → (r ≡ r′) × (now (s .0) ≡ now (s′ .0))
 rename-determined κs a r r′ s s′ p q = one-outcome r r′ _ _ _ p q
+
+pub protect-determined : (κs : _) (a : _) (r r′ : _) (s s′ : _) → protect.Post κs a r s → protect.Post κs a r′ s′
+    → (r ≡ r′) × (now (s .0) ≡ now (s′ .0))
+protect-determined κs a r r′ s s′ p q = one-outcome r r′ _ _ _ p q
+
+pub unprotect-determined : (κs : _) (a : _) (r r′ : _) (s s′ : _) → unprotect.Post κs a r s → unprotect.Post κs a r′ s′
+    → (r ≡ r′) × (now (s .0) ≡ now (s′ .0))
+unprotect-determined κs a r r′ s s′ p q = one-outcome r r′ _ _ _ p q
 
 pub abandon-determined : (κs : _) (a : _) (r r′ : _) (s s′ : _) → abandon.Post κs a r s → abandon.Post κs a r′ s′
     → (r ≡ r′) × (now (s .0) ≡ now (s′ .0))

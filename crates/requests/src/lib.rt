@@ -5,8 +5,10 @@ use meaning::Name;
 use meaning::Op;
 use meaning::Request;
 ghost use Rattle.meaning.specs.Answers.{Meets};
-ghost use Rattle.meaning.specs.Requests.{delete, abandon, rename, close};
+ghost use Rattle.meaning.specs.Requests.{delete, protect, unprotect, abandon, rename, close};
 ghost use Rattle.meaning.specs.Enter.{enter};
+ghost use Rattle.meaning.specs.Batch.{serveBy};
+ghost use Rattle.requests.specs.Records.{onFile};
 pub use door::fault;
 pub use door::fresh;
 pub use door::lookup;
@@ -19,14 +21,15 @@ const NO_NAME: Name = Name {
     extension: 0,
 };
 
-pub fn delete(d: &mut [u16], v: usize, name: Name) -> Answer
-    ensures { λ r. ⌜ Meets r (now (d .exit)) (delete v (now (d .entry)) name) ⌝ }
+// A request on a file, by its name alone.
+fn on_file(d: &mut [u16], v: usize, op: Op, name: Name) -> Answer
+    ensures { λ r. ⌜ Meets r (now (d .exit)) (serveBy op v (now (d .entry)) (onFile op name)) ⌝ }
 {
     serve(
         d,
         v,
         Request {
-            op: Op::Delete,
+            op,
             name,
             new_name: name,
             job: 0,
@@ -36,6 +39,25 @@ pub fn delete(d: &mut [u16], v: usize, name: Name) -> Answer
             date: 0,
         },
     )
+}
+
+pub fn delete(d: &mut [u16], v: usize, name: Name) -> Answer
+    ensures { λ r. ⌜ Meets r (now (d .exit)) (delete v (now (d .entry)) name) ⌝ }
+{
+    on_file(d, v, Op::Delete, name)
+}
+
+// A protected file can't be deleted, renamed or replaced until it is unprotected.
+pub fn protect(d: &mut [u16], v: usize, name: Name) -> Answer
+    ensures { λ r. ⌜ Meets r (now (d .exit)) (protect v (now (d .entry)) name) ⌝ }
+{
+    on_file(d, v, Op::Protect, name)
+}
+
+pub fn unprotect(d: &mut [u16], v: usize, name: Name) -> Answer
+    ensures { λ r. ⌜ Meets r (now (d .exit)) (unprotect v (now (d .entry)) name) ⌝ }
+{
+    on_file(d, v, Op::Unprotect, name)
 }
 
 pub fn rename(d: &mut [u16], v: usize, old: Name, new: Name) -> Answer

@@ -48,7 +48,7 @@ pub record Rule3 (d : List ℕ) : Type 0 where
   pub totals : (i : ℕ) → i < highest d → totalOf (segment d (visit d i)) ≡ totalOf d
   pub extras : (i : ℕ) → i < highest d → extraBytesOf (segment d (visit d i)) ≡ extraBytesOf d
 
--- a slot before the marker has one of the three statuses of an entry
+-- a slot before the marker is of one of the three kinds of an entry
 abbrev pub IsEntry : Kind → Type 0
 IsEntry k = (k ≡ Tentative) ⊎ ((k ≡ Empty) ⊎ (k ≡ Permanent))
 

@@ -147,6 +147,7 @@ module _ {g : List ℕ} {w s base first : ℕ} {key : Key} {left p b : ℕ} (v :
         slot = slotCount w - left + 1;
         at = base + p;
         first = b;
+        status = getD g p 0;
         length = getD g (p + 4) 0;
         date = getD g (p + 6) 0;
       })
@@ -156,7 +157,7 @@ module _ {g : List ℕ} {w s base first : ℕ} {key : Key} {left p b : ℕ} (v :
       let row = search-hit (holds key) w s g left p (v .k) (v .a) b h wide n e in
       let slot : v .k ≡ slotCount w - left + 1 = omega (arith, v .few, v .counted) in
       let told : foundOf (some (rowAt w s g p (v .k) (v .a) b)) ≡ hit =
-      rw (word g p w 4 (omega arith), word g p w 6 (omega arith), slot, v .place) in
+      rw (word0 g p w (omega arith), word g p w 4 (omega arith), word g p w 6 (omega arith), slot, v .place) in
       record { is = sym told ∙ sym (ap foundOf row) ∙ v .same; inside = omega (arith, fits h) }
 
   -- a slot that is passed by leaves the same to find

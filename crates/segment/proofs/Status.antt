@@ -1,6 +1,6 @@
--- A status word and its kind. `kindOf` tries four numbers in turn: a number that is one of them computes; and a number that is
--- known not to be one of them is left with the other three, none of which gives that one's kind. So the test of a kind is the
--- test of its number. Assumes nothing.
+-- A status word and its kind. `kindOf` asks in turn for each kind's number, or for its two: a number that is one of them computes; and a
+-- number that is known to be none of a kind's is left with the other three kinds. So the test of a kind is the test of its numbers.
+-- Assumes nothing.
 use Prim.Native.Nat.{ℕ}
 use mathlib.Core.Path.{_≡_, refl}
 use mathlib.Core.Bool.{Bool, true, false, cond}
@@ -8,7 +8,8 @@ use lib.Dec.{eqb}
 use borrow.Author.Tests.{ne-eqb, eqb-true, eqb-false}
 use Rattle.meaning.specs.declared.Kind.{Kind}
 use Rattle.meaning.specs.declared.Kind.the-variants.{Tentative, Empty, Permanent, End, Unknown}
-use Rattle.meaning.specs.Kinds.{tentativeStatus, emptyStatus, permanentStatus, endStatus, kindOf, isTentative, isEmpty, isPermanent, isEnd}
+use Rattle.meaning.specs.Kinds.{tentativeStatus, emptyStatus, permanentStatus, protectedStatus, endStatus, kindOf}
+use Rattle.meaning.specs.Kinds.{isTentative, isEmpty, isPermanent, isEnd}
 
 pub tentative-is : (x : ℕ) → x ≡ tentativeStatus → isTentative (kindOf x) ≡ true
 unfolding kindOf
@@ -21,6 +22,10 @@ empty-is x e = rw e
 pub permanent-is : (x : ℕ) → x ≡ permanentStatus → isPermanent (kindOf x) ≡ true
 unfolding kindOf
 permanent-is x e = rw e
+
+pub protected-is : (x : ℕ) → x ≡ protectedStatus → isPermanent (kindOf x) ≡ true
+unfolding kindOf
+protected-is x e = rw e
 
 pub end-is : (x : ℕ) → x ≡ endStatus → isEnd (kindOf x) ≡ true
 unfolding kindOf
@@ -59,9 +64,9 @@ pub empty-not : (x : ℕ) → (x ≡ emptyStatus → ⊥) → isEmpty (kindOf x)
 unfolding kindOf
 empty-not x h = rw (ne-eqb x emptyStatus h, other-empty)
 
-pub permanent-not : (x : ℕ) → (x ≡ permanentStatus → ⊥) → isPermanent (kindOf x) ≡ false
+pub permanent-not : (x : ℕ) → (x ≡ permanentStatus → ⊥) → (x ≡ protectedStatus → ⊥) → isPermanent (kindOf x) ≡ false
 unfolding kindOf
-permanent-not x h = rw (ne-eqb x permanentStatus h, other-permanent)
+permanent-not x h g = rw (ne-eqb x permanentStatus h, ne-eqb x protectedStatus g, other-permanent)
 
 pub end-not : (x : ℕ) → (x ≡ endStatus → ⊥) → isEnd (kindOf x) ≡ false
 unfolding kindOf
@@ -82,8 +87,13 @@ tentative-eqb = by-number isTentative tentativeStatus tentative-is tentative-not
 pub empty-eqb : (x : ℕ) → isEmpty (kindOf x) ≡ eqb x emptyStatus
 empty-eqb = by-number isEmpty emptyStatus empty-is empty-not
 
-pub permanent-eqb : (x : ℕ) → isPermanent (kindOf x) ≡ eqb x permanentStatus
-permanent-eqb = by-number isPermanent permanentStatus permanent-is permanent-not
+-- once the first of its numbers is not the one, the second decides
+pub protected-eqb : (x : ℕ) → (x ≡ permanentStatus → ⊥) → isPermanent (kindOf x) ≡ eqb x protectedStatus
+protected-eqb x h = go (eqb x protectedStatus) refl
+  where
+    go : (t : Bool) → eqb x protectedStatus ≡ t → isPermanent (kindOf x) ≡ t
+    go true e = protected-is x (eqb-true x protectedStatus e)
+    go false e = permanent-not x h (eqb-false x protectedStatus e)
 
 pub end-eqb : (x : ℕ) → isEnd (kindOf x) ≡ eqb x endStatus
 end-eqb = by-number isEnd endStatus end-is end-not

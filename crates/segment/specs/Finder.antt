@@ -3,7 +3,8 @@ use Prim.Native.Nat.{ℕ, _+_, _≤_}
 use mathlib.Core.Path.{_≡_}
 use mathlib.Core.List.{List}
 use mathlib.Core.Option.{Option, none, some}
-use Rattle.meaning.specs.Words.{Row, blocks, dateOf, slots, upto, rowsIn}
+use lib.ListN.{getD}
+use Rattle.meaning.specs.Words.{Row, statusWord, blocks, dateOf, slots, upto, rowsIn}
 use Rattle.meaning.specs.declared.Key.{Key}
 use Rattle.meaning.specs.Keys.{holds}
 use Rattle.meaning.specs.Answers.{find}
@@ -11,10 +12,18 @@ use Rattle.segment.specs.declared.finder.Place.{Place}
 use Rattle.segment.specs.declared.finder.Found.{Found}
 use Rattle.segment.specs.declared.finder.Found.the-variants.{At, Nothing}
 
--- a row's place, with the length and date of its entry
+-- a row's place, with the status, length and date of its entry
 abbrev pub placeOf : Row → Place
 placeOf r =
-    record { seg = r .seg; slot = r .slot; at = r .at; first = r .first; length = blocks (r .entry); date = dateOf (r .entry) }
+    record {
+      seg = r .seg;
+      slot = r .slot;
+      at = r .at;
+      first = r .first;
+      status = getD (r .entry) statusWord 0;
+      length = blocks (r .entry);
+      date = dateOf (r .entry);
+    }
 
 -- what a search answers: the place of the row that it finds, or nothing
 abbrev pub foundOf : Option Row → Found

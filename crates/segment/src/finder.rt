@@ -9,12 +9,13 @@ ghost use Rattle.meaning.specs.Keys.{holds};
 ghost use Rattle.segment.specs.Finder.{FoundIn};
 
 // Where an entry stands: its segment and slot, both counted from 1, the place of its first word in the directory, and its first
-// block; with the length and date that a request answers.
+// block; with the status, length and date of its entry, which requests ask for.
 pub struct Place {
     pub seg: usize,
     pub slot: usize,
     pub at: usize,
     pub first: usize,
+    pub status: u16,
     pub length: u16,
     pub date: u16,
 }
@@ -75,6 +76,7 @@ pub fn find_in(
                 slot: slots - left + 1,
                 at: base + word,
                 first: block,
+                status: segment[word],
                 length: segment[word + 4],
                 date: segment[word + 6],
             });

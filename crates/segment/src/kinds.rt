@@ -4,12 +4,14 @@ use meaning::EMPTY;
 use meaning::END;
 use meaning::Kind;
 use meaning::PERMANENT;
+use meaning::PROTECTED;
 use meaning::TENTATIVE;
 ghost use mathlib.Core.Path.{_≡_};
-ghost use Rattle.meaning.specs.Kinds.{kindOf, isTentative, isEmpty, isPermanent, isEnd};
+ghost use lib.Dec.{eqb};
+ghost use Rattle.meaning.specs.Kinds.{protectedStatus, kindOf, isTentative, isEmpty, isPermanent, isEnd};
 
-// A comparison each, and no `match` of all four: the numbers are powers of two, for which the compiler counts zero bits instead, and walks
-// that ask for one kind take longer (docs/DECISIONS.md has the measurement).
+// A comparison each, and two for a permanent entry, but no `match` of all: most numbers are powers of two, for which the compiler counts zero
+// bits instead, and walks that ask for one kind take longer (docs/DECISIONS.md has the measurement).
 pub fn is_tentative(status: u16) -> bool
     ensures { λ r. ⌜ r ≡ isTentative (kindOf status) ⌝ }
 {
@@ -22,10 +24,20 @@ pub fn is_empty(status: u16) -> bool
     status == EMPTY
 }
 
+// Protected or not.
 pub fn is_permanent(status: u16) -> bool
     ensures { λ r. ⌜ r ≡ isPermanent (kindOf status) ⌝ }
 {
-    status == PERMANENT
+    if status == PERMANENT {
+        return true;
+    }
+    status == PROTECTED
+}
+
+pub fn is_protected(status: u16) -> bool
+    ensures { λ r. ⌜ r ≡ eqb status protectedStatus ⌝ }
+{
+    status == PROTECTED
 }
 
 pub fn is_marker(status: u16) -> bool

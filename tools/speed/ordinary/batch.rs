@@ -2,6 +2,7 @@
 use crate::enter::enter_sound;
 use crate::files::*;
 use crate::sound::fault;
+use crate::words::{PERMANENT, PROTECTED};
 use crate::{refused, Answer, Op, Request};
 
 fn serve_sound(d: &mut [u16], r: &Request) -> Answer {
@@ -12,6 +13,8 @@ fn serve_sound(d: &mut [u16], r: &Request) -> Answer {
         Op::Abandon => abandon_sound(d, r.job, r.channel),
         Op::Delete => delete_sound(d, r.name),
         Op::Rename => rename_sound(d, r.name, r.new_name),
+        Op::Protect => restate_sound(d, r.name, PROTECTED),
+        Op::Unprotect => restate_sound(d, r.name, PERMANENT),
     }
 }
 

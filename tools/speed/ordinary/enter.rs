@@ -1,6 +1,6 @@
 //! Enter and a fresh start. A survey sees the directory as its tidy would leave it; nothing is written before nothing can refuse, and then
 //! only the segments that change.
-use crate::files::at_door;
+use crate::files::{at_door, find_file};
 use crate::words::*;
 use crate::{refused, Answer, Name};
 
@@ -234,6 +234,9 @@ pub fn enter_sound(d: &mut [u16], name: Name, size: i32, job: u16, channel: u16,
     let Some(found) = survey(d, word, size.max(1) as u16) else {
         return refused(10);
     };
+    if find_file(d, name).is_some_and(|old| d[old.at] == PROTECTED) {
+        return refused(20);
+    }
     if found.fit.is_none() {
         return refused(if found.long { 12 } else { 11 });
     }

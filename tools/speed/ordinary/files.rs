@@ -1,11 +1,11 @@
-//! Lookup, delete and rename by a name; close and abandon by a channel. The `_sound` ones presume a sound directory.
+//! Lookup, delete, rename, protect and unprotect by a name; close and abandon by a channel. The `_sound` ones presume a sound directory.
 use crate::sound::fault;
 use crate::words::*;
 use crate::{refused, Answer, Name};
 
 /// The place of an entry's first word, and its first block.
-struct Place {
-    at: usize,
+pub(crate) struct Place {
+    pub(crate) at: usize,
     first: u16,
 }
 
@@ -30,9 +30,9 @@ fn find(d: &[u16], is_it: impl Fn(&[u16; 7]) -> bool) -> Option<Place> {
     None
 }
 
-fn find_file(d: &[u16], name: Name) -> Option<Place> {
+pub(crate) fn find_file(d: &[u16], name: Name) -> Option<Place> {
     let key = four([PERMANENT, name.first, name.second, name.extension]);
-    find(d, |e| four(*e.first_chunk().unwrap()) == key)
+    find(d, |e| file_key(e) == key)
 }
 
 fn find_open(d: &[u16], word: u16) -> Option<Place> {
@@ -60,7 +60,25 @@ pub fn delete_sound(d: &mut [u16], name: Name) -> Answer {
     let Some(place) = find_file(d, name) else {
         return refused(13);
     };
+    if d[place.at] == PROTECTED {
+        return refused(20);
+    }
     d[place.at] = EMPTY;
+    answered(d, place)
+}
+
+/// Protect and unprotect: the file's status becomes this one.
+pub fn restate_sound(d: &mut [u16], name: Name, status: u16) -> Answer {
+    if !is_legal_name(name) {
+        return refused(7);
+    }
+    if name == FILE_BAD {
+        return refused(19);
+    }
+    let Some(place) = find_file(d, name) else {
+        return refused(13);
+    };
+    d[place.at] = status;
     answered(d, place)
 }
 
@@ -74,6 +92,9 @@ pub fn rename_sound(d: &mut [u16], old: Name, new: Name) -> Answer {
     let Some(place) = find_file(d, old) else {
         return refused(13);
     };
+    if d[place.at] == PROTECTED {
+        return refused(20);
+    }
     if find_file(d, new).is_some() {
         return refused(14);
     }
@@ -106,6 +127,9 @@ pub fn close_sound(d: &mut [u16], job: u16, channel: u16, length: i32) -> Answer
     let name = Name { first: d[at + 1], second: d[at + 2], extension: d[at + 3] };
     if name != FILE_BAD {
         if let Some(old) = find_file(d, name) {
+            if d[old.at] == PROTECTED {
+                return refused(20);
+            }
             d[old.at] = EMPTY;
         }
     }
@@ -142,6 +166,16 @@ pub fn delete(d: &mut [u16], v: usize, name: Name) -> Answer {
 #[inline(never)]
 pub fn rename(d: &mut [u16], v: usize, old: Name, new: Name) -> Answer {
     at_door(d, v, |d| rename_sound(d, old, new))
+}
+
+#[inline(never)]
+pub fn protect(d: &mut [u16], v: usize, name: Name) -> Answer {
+    at_door(d, v, |d| restate_sound(d, name, PROTECTED))
+}
+
+#[inline(never)]
+pub fn unprotect(d: &mut [u16], v: usize, name: Name) -> Answer {
+    at_door(d, v, |d| restate_sound(d, name, PERMANENT))
 }
 
 #[inline(never)]

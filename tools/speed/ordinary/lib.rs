@@ -1,5 +1,5 @@
-//! The requests of document 01, with document 02's rules as far as they are proved, as a good Rust programmer writes them where speed counts and nothing is proved: no heap, no copy of the
-//! directory, every change in place. The proved routines are timed beside these.
+//! The requests of document 01, and document 02's as far as they are proved, as a good Rust programmer writes them where speed counts and
+//! nothing is proved: no heap, no copy of the directory, every change in place. The proved routines are timed beside these.
 #![no_std]
 #![deny(unsafe_code)]
 
@@ -12,7 +12,7 @@ mod words;
 
 pub use batch::{run, run_each};
 pub use enter::{enter, fresh};
-pub use files::{abandon, close, delete, lookup, rename};
+pub use files::{abandon, close, delete, lookup, protect, rename, unprotect};
 pub use listing::{listing, ROOM};
 pub use sound::fault;
 pub use words::FILE_BAD;
@@ -34,6 +34,8 @@ pub enum Op {
     Abandon,
     Delete,
     Rename,
+    Protect,
+    Unprotect,
 }
 
 /// In C's layout, which is that of the proved record too, so that one slice serves both sides.

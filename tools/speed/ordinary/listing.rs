@@ -88,7 +88,7 @@ fn part<const N: usize>(out: &mut [u8; 36], at: usize) -> &mut [u8; N] {
 fn row(out: &mut [u8; 36], e: &[u16; 7], first: u16) {
     *part(out, 0) = *b"E ..........";
     if e[0] != EMPTY {
-        out[0] = if e[0] == PERMANENT { b'P' } else { b'T' };
+        out[0] = if e[0] == TENTATIVE { b'T' } else { b'P' };
         spell(part(out, 2), e[1]);
         spell(part(out, 5), e[2]);
         spell(part(out, 9), e[3]);

@@ -69,7 +69,7 @@ fn key_of(e: &[u16; 7]) -> u64 {
     if e[0] == TENTATIVE {
         return four([TENTATIVE, e[5], 0, 0]);
     }
-    four(*e.first_chunk().unwrap())
+    file_key(e)
 }
 
 /// The key that may stand any number of times, of a file FILE.BAD; the status is the lowest word.
@@ -87,11 +87,11 @@ fn slots_fault<const B: u32, const S: usize>(d: &[u16], number: usize, width: us
     let mut place = 512 * (number - 1) + 5;
     let (mut owed, mut twice, mut sum) = (false, false, 0);
     for e in slots(segment(d, number), width) {
-        if e[0] == PERMANENT {
+        if is_permanent(e[0]) {
             if owed || is_long(e) {
                 return None;
             }
-            let key = four(*e.first_chunk().unwrap());
+            let key = file_key(e);
             twice |= key != SPARED && met.again(d, key, place);
         } else if e[0] == TENTATIVE {
             if owed || is_long(e) {

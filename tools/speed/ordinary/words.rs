@@ -6,6 +6,13 @@ pub const EMPTY: u16 = 512;
 pub const PERMANENT: u16 = 1024;
 pub const END: u16 = 2048;
 
+/// A permanent entry may have the protection bit.
+pub const PROTECTED: u16 = PERMANENT | 1 << 15;
+
+pub fn is_permanent(status: u16) -> bool {
+    status & !(1 << 15) == PERMANENT
+}
+
 /// The highest channel of a job.
 pub const CHANNEL_LIMIT: u16 = 255;
 
@@ -40,6 +47,12 @@ pub fn slots(g: &[u16; 512], width: usize) -> impl Iterator<Item = &[u16; 7]> {
 #[allow(unsafe_code)]
 pub fn four(words: [u16; 4]) -> u64 {
     u64::from_le(unsafe { core::mem::transmute::<[u16; 4], u64>(words) })
+}
+
+/// Status and name of a permanent entry, the same with the protection bit and without.
+#[inline(always)]
+pub fn file_key(e: &[u16; 7]) -> u64 {
+    four(*e.first_chunk().unwrap()) & !(1 << 15)
 }
 
 fn codes(word: u16) -> [u16; 3] {

@@ -1,4 +1,4 @@
--- `abandon_sound` meets its contract: the channel is tested, and then `empty_found` does the rest with the channel's key.
+-- `abandon_sound` meets its contract: the channel is tested, and then `restate_found` does the rest with the channel's key.
 use borrow.Author.Needs.{needs}
 use native.Mathlib.Omega.{arith}
 use mathlib.Core.Path.{_≡_, refl, sym, _∙_}
@@ -38,8 +38,8 @@ add-t10 c =
     let l = channel-fits _ _ (channelled-at (c .before)) in
     omega arith
 
-empty-found-requires : tie.Need-empty-found-requires
-empty-found-requires c κs = c .before .before .before .before .pre
+restate-found-requires : tie.Need-restate-found-requires
+restate-found-requires c κs = c .before .before .before .before .pre
 
 same-length : tie.Need-same-length
 same-length c = search needs
@@ -48,7 +48,7 @@ returns-2 : tie.Need-returns-2
 returns-2 c =
     let i = c .before .before .before .before in
     let s = i .before .before .before in
-    rw (abandon-good (s .args .v) (now (s .args .d)) (s .pre) (s .args .job) (s .args .channel) (channelled-at i)) (c .before .before .empty-found .ensures)
+    rw (abandon-good (s .args .v) (now (s .args .d)) (s .pre) (s .args .job) (s .args .channel) (channelled-at i)) (c .before .before .restate-found .ensures)
 
 pub abandon-sound-spec : {M : Type 1} → statement M
 abandon-sound-spec =
@@ -59,6 +59,6 @@ abandon-sound-spec =
     returns
     mul-t9
     add-t10
-    empty-found-requires
+    restate-found-requires
     same-length
     returns-2)

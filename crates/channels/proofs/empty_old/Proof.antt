@@ -9,8 +9,8 @@ use Rattle.channels.proofs.empty_old.Tie as tie
 enum-known-old : tie.Need-enum-known-old
 enum-known-old c = search needs
 
-make-empty-requires : tie.Need-make-empty-requires
-make-empty-requires c κs =
+give-status-requires : tie.Need-give-status-requires
+give-status-requires c κs =
     let l = place-inside _ _ _ _ (c .before .before .old .given .1) (c .before .before .before .before .before .pre) in
     omega arith
 
@@ -21,7 +21,7 @@ same-length : tie.Need-same-length
 same-length c = search needs
 
 returns : tie.Need-returns
-returns c = rw (c .before .before .before .before .before .old .given .1) (c .before .before .make-empty .ensures)
+returns c = rw (c .before .before .before .before .before .old .given .1) (c .before .before .give-status .ensures)
 
 returns-2 : tie.Need-returns-2
 unfolding write
@@ -29,4 +29,4 @@ returns-2 c = rw (c .enum-told .given .1)
 
 pub empty-old-spec : {M : Type 1} → statement M
 empty-old-spec =
-    tie.close (tie.spec enum-known-old make-empty-requires enum-told same-length returns returns-2)
+    tie.close (tie.spec enum-known-old give-status-requires enum-told same-length returns returns-2)

@@ -1,4 +1,4 @@
--- `enter_sound` meets its contract: the tests in order, each by its law (`Tested`), and then `enter_file` on a sound directory in which the
+-- `enter_sound` meets its contract: the tests in order, each by its law (`Tested`), and then `enter_named` on a sound directory in which the
 -- channel is free. What has passed is said once for each place.
 use borrow.Author.Needs.{needs}
 use native.Mathlib.Omega.{arith}
@@ -166,8 +166,8 @@ refused-requires-6 c κs = search needs
 enum-told-2 : tie.Need-enum-told-2
 enum-told-2 c = search needs
 
-enter-file-requires : tie.Need-enter-file-requires
-enter-file-requires c κs = start (c .before .before .before .before) .pre
+enter-named-requires : tie.Need-enter-named-requires
+enter-named-requires c κs = start (c .before .before .before .before) .pre
 
 same-length : tie.Need-same-length
 same-length c = search needs
@@ -190,7 +190,7 @@ returns-7 c =
     let w = wordOf (s .args .job) (s .args .channel) in
     let n = open-none (now (s .args .d)) w (sym (f .find-entry .ensures .is) ∙ c .before .before .before .before .enum-told2 .given .1) in
     let back = size-back (f .before .before .before .before .before .before) in
-    rw (let-in (call s) (passed-at (f .before)) n, ← back) (c .before .before .enter-file .ensures)
+    rw (let-in (call s) (passed-at (f .before)) n, ← back) (c .before .before .enter-named .ensures)
 
 pub enter-sound-spec : {M : Type 1} → statement M
 enter-sound-spec =
@@ -218,7 +218,7 @@ enter-sound-spec =
     enum-told
     refused-requires-6
     enum-told-2
-    enter-file-requires
+    enter-named-requires
     same-length
     returns-6
     same-length-2

@@ -6,7 +6,8 @@ use denote.Ref.{now}
 use mir.Syntax.{w32}
 use mir.ValLaws.{toZ-ofZ}
 use Rattle.meaning.specs.declared.Op.{Op}
-use Rattle.meaning.specs.declared.Op.the-variants.{Lookup, Enter, Close, Abandon, Delete, Rename}
+use Rattle.meaning.specs.declared.Op.the-variants.{Lookup, Enter, Close, Abandon, Delete, Rename, Protect, Unprotect}
+use Rattle.meaning.specs.Requests.{protect, unprotect}
 use Rattle.meaning.specs.Batch.{serve, serveBy}
 use Rattle.engine.proofs.Tested.{looked-up, serves}
 use Rattle.engine.proofs.serve_sound.Statement.{statement}
@@ -52,6 +53,18 @@ enum-told-6 c = search needs
 
 rename-sound-requires : tie.Need-rename-sound-requires
 rename-sound-requires c κs = c .before .before .before .before .before .pre
+
+enum-told-7 : tie.Need-enum-told-7
+enum-told-7 c = search needs
+
+restate-sound-requires : tie.Need-restate-sound-requires
+restate-sound-requires c κs = c .before .before .before .before .before .pre
+
+enum-told-8 : tie.Need-enum-told-8
+enum-told-8 c = search needs
+
+restate-sound-requires-2 : tie.Need-restate-sound-requires-2
+restate-sound-requires-2 c κs = c .before .before .before .before .before .pre
 
 same-length : tie.Need-same-length
 same-length c = search needs
@@ -109,6 +122,24 @@ returns-6 c =
     let m = c .before .before .before .before in
     rw (served (m .before .before) Rename (m .enum-told6 .given .1)) (c .before .before .rename-sound .ensures)
 
+same-length-7 : tie.Need-same-length-7
+same-length-7 c = search needs
+
+returns-7 : tie.Need-returns-7
+unfolding protect
+returns-7 c =
+    let m = c .before .before .before .before in
+    rw (served (m .before .before) Protect (m .enum-told7 .given .1)) (c .before .before .restate-sound .ensures)
+
+same-length-8 : tie.Need-same-length-8
+same-length-8 c = search needs
+
+returns-8 : tie.Need-returns-8
+unfolding unprotect
+returns-8 c =
+    let m = c .before .before .before .before in
+    rw (served (m .before .before) Unprotect (m .enum-told8 .given .1)) (c .before .before .restate-sound2 .ensures)
+
 pub serve-sound-spec : {M : Type 1} → statement M
 serve-sound-spec =
     tie.close
@@ -125,6 +156,10 @@ serve-sound-spec =
     delete-sound-requires
     enum-told-6
     rename-sound-requires
+    enum-told-7
+    restate-sound-requires
+    enum-told-8
+    restate-sound-requires-2
     same-length
     returns
     same-length-2
@@ -136,4 +171,8 @@ serve-sound-spec =
     same-length-5
     returns-5
     same-length-6
-    returns-6)
+    returns-6
+    same-length-7
+    returns-7
+    same-length-8
+    returns-8)

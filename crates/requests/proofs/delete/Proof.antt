@@ -1,18 +1,16 @@
--- `delete` meets its contract: the record that it hands to `serve` is one of its kind, so `serve` is `delete` there.
+-- `delete` meets its contract: it is `on_file`'s, of its own kind.
 use borrow.Author.Needs.{needs}
-use Rattle.meaning.specs.Batch.{serve}
 use Rattle.requests.proofs.delete.Statement.{statement}
 use Rattle.requests.proofs.delete.Tie as tie
 
-serve-requires : tie.Need-serve-requires
-serve-requires c κs = search needs
+on-file-requires : tie.Need-on-file-requires
+on-file-requires c κs = search needs
 
 same-length : tie.Need-same-length
 same-length c = search needs
 
 returns : tie.Need-returns
-unfolding serve
-returns c = c .before .before .serve .ensures
+returns c = c .before .before .on-file .ensures
 
 pub delete-spec : {M : Type 1} → statement M
-delete-spec = tie.close (tie.spec serve-requires same-length returns)
+delete-spec = tie.close (tie.spec on-file-requires same-length returns)

@@ -55,31 +55,37 @@ add-t18 c = omega (arith, div-le-self 507 (c .before .before .before .before .be
 add-t19 : tie.Need-add-t19 Inv-loop μ-loop
 add-t19 c = omega (arith, slot-fits (c .before .before .before .before .before))
 
-add-t20 : tie.Need-add-t20 Inv-loop μ-loop
-add-t20 c = omega (arith, slot-fits (c .before .before .before .before .before))
+mul-t20 : tie.Need-mul-t20 Inv-loop μ-loop
+mul-t20 c = omega (arith, slot-fits (c .before .before .before .before .before))
 
-mul-t21 : tie.Need-mul-t21 Inv-loop μ-loop
-mul-t21 c = omega (arith, slot-fits (c .before .before .before .before .before))
+shared-slice-read-t22 : tie.Need-shared-slice-read-t22 Inv-loop μ-loop
+shared-slice-read-t22 c = omega (arith, slot-fits (c .before .before .before .before .before .before))
 
-shared-slice-read-t23 : tie.Need-shared-slice-read-t23 Inv-loop μ-loop
-shared-slice-read-t23 c = omega (arith, slot-fits (c .before .before .before .before .before .before))
+add-t23 : tie.Need-add-t23 Inv-loop μ-loop
+add-t23 c = omega (arith, slot-fits (c .before .before .before .before .before .before))
 
-add-t24 : tie.Need-add-t24 Inv-loop μ-loop
-add-t24 c = omega (arith, slot-fits (c .before .before .before .before .before .before))
+mul-t24 : tie.Need-mul-t24 Inv-loop μ-loop
+mul-t24 c = omega (arith, slot-fits (c .before .before .before .before .before .before))
 
-mul-t25 : tie.Need-mul-t25 Inv-loop μ-loop
-mul-t25 c = omega (arith, slot-fits (c .before .before .before .before .before .before))
+shared-slice-read-t26 : tie.Need-shared-slice-read-t26 Inv-loop μ-loop
+shared-slice-read-t26 c = omega (arith, slot-fits (c .before .before .before .before .before .before .before))
 
-shared-slice-read-t27 : tie.Need-shared-slice-read-t27 Inv-loop μ-loop
-shared-slice-read-t27 c = omega (arith, slot-fits (c .before .before .before .before .before .before .before))
+add-t27 : tie.Need-add-t27 Inv-loop μ-loop
+add-t27 c = omega (arith, slot-fits (c .before .before .before .before .before .before .before))
+
+mul-t28 : tie.Need-mul-t28 Inv-loop μ-loop
+mul-t28 c = omega (arith, slot-fits (c .before .before .before .before .before .before .before))
+
+shared-slice-read-t30 : tie.Need-shared-slice-read-t30 Inv-loop μ-loop
+shared-slice-read-t30 c = omega (arith, slot-fits (c .before .before .before .before .before .before .before .before))
 
 returns-2 : tie.Need-returns-2 Inv-loop μ-loop
 returns-2 c =
-    let m = c .before .before .before .before in
+    let m = c .before .before .before .before .before in
     let i = m .before .before .before in
     hits (i .before .loop .inv) (omega arith) (i .loop-test .taken)
     (sym (m .before .is-marker .ensures) ∙ m .if1 .left)
-    (sym (c .before .before .before .slot-keyed .ensures) ∙ c .before .before .if2 .taken)
+    (sym (c .before .before .before .before .slot-keyed .ensures) ∙ c .before .before .before .if2 .taken)
 
 add-block : tie.Need-add-block Inv-loop μ-loop
 add-block c = omega (arith, slot-fits (c .before .before .before .before .before))
@@ -93,12 +99,12 @@ shared-slice-read-block c = omega (arith, slot-fits (c .before .before .before .
 cast-block : tie.Need-cast-block Inv-loop μ-loop
 cast-block c =
     let l = c .before .before .before .before .before .before .before .loop in
-    omega (arith, c .shared-slice-known5 .given (l .word + 4))
+    omega (arith, c .shared-slice-known6 .given (l .word + 4))
 
 add-block-2 : tie.Need-add-block-2 Inv-loop μ-loop
 add-block-2 c =
     let l = c .before .before .before .before .before .before .before .loop in
-    omega (arith, block-small (l .inv) (omega arith), c .shared-slice-known5 .given (l .word + 4))
+    omega (arith, block-small (l .inv) (omega arith), c .shared-slice-known6 .given (l .word + 4))
 
 add-word : tie.Need-add-word Inv-loop μ-loop
 add-word c = omega (arith, slot-fits (c .before .before .before .before .before .before))
@@ -116,7 +122,7 @@ loop-again c =
     passes (i .before .loop .inv) (omega arith) (i .loop-test .taken)
     (sym (m .before .is-marker .ensures) ∙ m .if1 .left)
     (sym (c .before .before .slot-keyed .ensures) ∙ c .before .if2 .left)
-    (omega (arith, c .shared-slice-known5 .given (i .before .loop .word + 4)))
+    (omega (arith, c .shared-slice-known6 .given (i .before .loop .word + 4)))
 
 returns-3 : tie.Need-returns-3 Inv-loop μ-loop
 returns-3 c = none-left (c .before .loop .inv) (omega arith) (c .loop-test .left)
@@ -137,12 +143,14 @@ find-in-spec =
     sub-t17
     add-t18
     add-t19
-    add-t20
-    mul-t21
-    shared-slice-read-t23
-    add-t24
-    mul-t25
-    shared-slice-read-t27
+    mul-t20
+    shared-slice-read-t22
+    add-t23
+    mul-t24
+    shared-slice-read-t26
+    add-t27
+    mul-t28
+    shared-slice-read-t30
     returns-2
     add-block
     mul-block

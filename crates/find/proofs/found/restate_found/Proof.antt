@@ -1,15 +1,15 @@
--- `empty_found` meets its contract: what was found is what the meaning finds, and its status is the one write (`emptied-at`); where nothing
--- was found no word is written (`emptied-none`).
+-- `restate_found` meets its contract: what was found is what the meaning finds, and its status is the one write (`restated-at`); where nothing
+-- was found no word is written (`restated-none`).
 use borrow.Author.Needs.{needs}
 use native.Mathlib.Omega.{arith}
 use mathlib.Core.Path.{refl, sym, _∙_}
 use denote.Ref.{now}
 use Rattle.meaning.specs.Answers.{refuse}
 use Rattle.chain.proofs.Chains.{fault-chained}
-use Rattle.find.proofs.Behind.{first-fits, emptied-at, emptied-none}
+use Rattle.find.proofs.Behind.{first-fits, restated-at, restated-none}
 use Rattle.segment.proofs.Searching.{place-inside}
-use Rattle.find.proofs.found.empty_found.Statement.{statement}
-use Rattle.find.proofs.found.empty_found.Tie as tie
+use Rattle.find.proofs.found.restate_found.Statement.{statement}
+use Rattle.find.proofs.found.restate_found.Tie as tie
 
 find-entry-requires : tie.Need-find-entry-requires
 find-entry-requires c κs = let s = c .before .before in fault-chained (s .args .v) (now (s .args .d)) (s .pre)
@@ -17,8 +17,8 @@ find-entry-requires c κs = let s = c .before .before in fault-chained (s .args 
 enum-known-found : tie.Need-enum-known-found
 enum-known-found c = search needs
 
-make-empty-requires : tie.Need-make-empty-requires
-make-empty-requires c κs =
+give-status-requires : tie.Need-give-status-requires
+give-status-requires c κs =
     let t = c .before .before in
     let l = place-inside _ _ _ _ (t .found .given .1) (t .before .before .find-entry .ensures .inside) in
     omega arith
@@ -45,8 +45,8 @@ returns c =
     let f = t .before .before in
     let s = f .before .before .before in
     let e = sym (f .find-entry .ensures .is) ∙ t .found .given .1 in
-    rw (emptied-at (now (s .args .d)) (s .args .key) (s .args .missing) _ e)
-    (record { answer = c .answered .ensures; words = c .before .before .before .make-empty .ensures })
+    rw (restated-at (now (s .args .d)) (s .args .key) (s .args .missing) (s .args .status) _ e)
+    (record { answer = c .answered .ensures; words = c .before .before .before .give-status .ensures })
 
 same-length-2 : tie.Need-same-length-2
 same-length-2 c = search needs
@@ -57,16 +57,16 @@ returns-2 c =
     let f = c .before .before .before in
     let s = f .before .before .before in
     let e = sym (f .find-entry .ensures .is) ∙ c .before .enum-told .given .1 in
-    rw (emptied-none (now (s .args .d)) (s .args .key) (s .args .missing) e)
+    rw (restated-none (now (s .args .d)) (s .args .key) (s .args .missing) (s .args .status) e)
     (record { answer = c .refused .ensures; words = refl })
 
-pub empty-found-spec : {M : Type 1} → statement M
-empty-found-spec =
+pub restate-found-spec : {M : Type 1} → statement M
+restate-found-spec =
     tie.close
     (tie.spec
     find-entry-requires
     enum-known-found
-    make-empty-requires
+    give-status-requires
     answered-requires
     enum-told
     refused-requires

@@ -1,9 +1,9 @@
--- `make_empty` meets its contract: its store is the one write.
+-- `give_status` meets its contract: its store is the one write.
 use borrow.Author.Needs.{needs}
 use native.Mathlib.Nat.{add-zero}
 use Rattle.meaning.specs.Answers.{write}
-use Rattle.edits.proofs.change.make_empty.Statement.{statement}
-use Rattle.edits.proofs.change.make_empty.Tie as tie
+use Rattle.edits.proofs.change.give_status.Statement.{statement}
+use Rattle.edits.proofs.change.give_status.Tie as tie
 
 mul-words : tie.Need-mul-words
 mul-words c = search needs
@@ -18,5 +18,5 @@ returns : tie.Need-returns
 unfolding write
 returns c = rw add-zero
 
-pub make-empty-spec : {M : Type 1} → statement M
-make-empty-spec = tie.close (tie.spec mul-words slice-write-words same-length returns)
+pub give-status-spec : {M : Type 1} → statement M
+give-status-spec = tie.close (tie.spec mul-words slice-write-words same-length returns)
