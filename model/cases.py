@@ -5,8 +5,8 @@
     python3 model/cases.py --check                          tells whether both parts are what the model gives today
     python3 model/cases.py --run FILE                       prints the lines that the model gives for a case file
 
-Our own part is the bench examples, the evening's batches, the channels, the ages, the bad areas, the protected files, the trials and one seed of
-random requests. Its lines come from the model alone.
+Our own part is the bench examples, the evening's batches, the channels, the ages, the bad areas, the protected files, the places, the trials and
+one seed of random requests. Its lines come from the model alone.
 """
 import itertools
 import pathlib
@@ -19,6 +19,7 @@ import casefile
 import channels
 import evening
 import guards
+import places
 import requests
 import trials
 
@@ -36,6 +37,7 @@ def own_part():
     ages.add(case)
     bads.add(case)
     guards.add(case)
+    places.add(case)
     trials.add(case)
     requests.add(case, SEED, DIRECTORIES)
     case.end()

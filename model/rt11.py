@@ -46,6 +46,8 @@ class Answer(NamedTuple):
     first: int = 0
     length: int = 0
     date: int = 0
+    segment: int = 0  # from here on document 02, Req 08
+    slot: int = 0
 
 
 class Row(NamedTuple):
@@ -256,7 +258,7 @@ def refused(number, words):
 
 def answered(row, words):
     """A success: the entry concerned, as it stands in the words afterwards."""
-    return Answer(0, row.first, row.entry[LENGTH], row.entry[DATE]), words
+    return Answer(0, row.first, row.entry[LENGTH], row.entry[DATE], row.segment, row.slot), words
 
 
 def written(words, writes):

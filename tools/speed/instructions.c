@@ -11,8 +11,9 @@ struct name {
     u16 first, second, extension;
 };
 
+// A commit from before document 02's Req 08 leaves the last two as they are, and they are not compared.
 struct answer {
-    u16 number, first, length, date;
+    u16 number, first, length, date, segment, slot;
 };
 
 u16 before_fault(const u16 *d, usize len, usize v);

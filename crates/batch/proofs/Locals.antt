@@ -1,6 +1,6 @@
--- The types of `run`'s locals as the logic has them, and where element i of a slice lies. A request takes 32 bytes and an answer 8: a field
--- more changes these two numbers in this crate's proofs, and no step. Assumes nothing.
-use Prim.Native.Nat.{ℕ, _*_, _<_, _^_}
+-- The types of `run`'s locals as the logic has them, and where element i of a slice lies. A field more in a request or an answer changes its
+-- bytes here, `bytesQ` or `bytesA`, and no step of a proof. Assumes nothing.
+use Prim.Native.Nat.{ℕ, _*_, _≤_, _<_, _^_}
 use native.Mathlib.Omega.{arith}
 use mathlib.Core.List.{List}
 use package.mir.Syntax.{Ty, named, erased, imm, mut, w16, w64, tyInt, tyRef}
@@ -58,9 +58,23 @@ valsQ = LL.vals TQ.the-type TQ′.the-laws
 abbrev pub valsA : Answer → List Val
 valsA = LL.vals TA.the-type TA′.the-laws
 
--- the place of element i fits a usize, for elements of 32 and of 8 bytes
-pub scaled₃₂ : (n i : ℕ) → n * 32 < 2 ^ 63 → i < n → i * 32 < 2 ^ 64
-scaled₃₂ n i h l = omega (arith, h, l)
+-- the bytes of a request and of an answer
+abbrev pub bytesQ : ℕ
+bytesQ = 32
 
-pub scaled₈ : (n i : ℕ) → n * 8 < 2 ^ 63 → i < n → i * 8 < 2 ^ 64
-scaled₈ n i h l = omega (arith, h, l)
+abbrev pub bytesA : ℕ
+bytesA = 12
+
+-- the place of element i fits a usize
+pub scaledQ : (n i : ℕ) → n * bytesQ < 2 ^ 63 → i < n → i * bytesQ < 2 ^ 64
+scaledQ n i h l = omega (arith, h, l)
+
+pub scaledA : (n i : ℕ) → n * bytesA < 2 ^ 63 → i < n → i * bytesA < 2 ^ 64
+scaledA n i h l = omega (arith, h, l)
+
+-- and so do eight elements
+pub eightQ : (k : ℕ) → k ≤ 8 → k * bytesQ < 2 ^ 63
+eightQ k l = omega (arith, l)
+
+pub eightA : (k : ℕ) → k ≤ 8 → k * bytesA < 2 ^ 63
+eightA k l = omega (arith, l)

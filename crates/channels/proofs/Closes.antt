@@ -11,16 +11,17 @@ use Rattle.meaning.specs.declared.Name.{Name}
 use Rattle.meaning.specs.Kinds.{permanentStatus}
 use Rattle.meaning.specs.Words.{Row, slotWords, statusWord, lengthWord, channelWord, nameOf, blocks, dateOf}
 use Rattle.meaning.specs.Sound.{fault}
-use Rattle.meaning.specs.Answers.{granted, refuse, success, Write, put, write, openOn}
+use Rattle.meaning.specs.Answers.{refuse, success, Write, put, write, openOn}
 use Rattle.meaning.specs.Requests.{emptying, replacing, givesWay, overProtected, closing}
 use Rattle.meaning.specs.declared.Key.the-variants.{Open}
-use Rattle.meaning.specs.Keys.{holds}
 use Rattle.segment.specs.declared.finder.Place.{Place}
 use Rattle.segment.specs.declared.finder.Found.{Found}
 use Rattle.segment.specs.declared.finder.Found.the-variants.{At, Nothing}
 use Rattle.segment.specs.Finder.{foundOf, Inside}
 use Rattle.walks.proofs.Words.{word}
-use Rattle.rules.proofs.Grown.{closable, row-ends}
+use Rattle.rules.proofs.Grown.{closable}
+use Rattle.find.specs.Find.{FitsWords, answerWith}
+use Rattle.find.proofs.Behind.{place-small}
 use Rattle.channels.specs.Closing.{replacingAt, Opened, closedAt, closedOn}
 
 -- writes one after the other
@@ -41,10 +42,12 @@ pub record Ready (d : List ℕ) (p : Place) (r : Row) : Type 0 where
   pub length′ : blocks (r .entry) ≡ p .length
   pub first : r .first ≡ p .first
   pub date : dateOf (r .entry) ≡ p .date
+  pub seg : r .seg ≡ p .seg
+  pub slot : r .slot ≡ p .slot
   pub word : (k : ℕ) → k < 7 → getD d (p .at + k) 0 ≡ getD (r .entry) k 0
   pub room : p .at + slotWords d + slotWords d ≤ length d
   pub fits : p .length + getD d (p .at + slotWords d + lengthWord) 0 ≤ 65535
-  pub small : p .first ≤ 65535
+  pub small : FitsWords p
 
 pub ready : (v : ℕ) (d : List ℕ) → fault v d ≡ 0 → (x : ℕ) (p : Place) (o : Opened d x p) → Ready d p (o .row)
 unfolding openOn
@@ -54,16 +57,17 @@ ready v d h x p o =
     let a : r .at ≡ p .at = ap (λ (q : Place). q .at) (o .place) in
     let l : blocks (r .entry) ≡ p .length = ap (λ (q : Place). q .length) (o .place) in
     let f : r .first ≡ p .first = ap (λ (q : Place). q .first) (o .place) in
-    let e = row-ends v d h (holds (Open x)) r (o .is) in
     record {
       at = a;
       length′ = l;
       first = f;
       date = ap (λ (q : Place). q .date) (o .place);
+      seg = ap (λ (q : Place). q .seg) (o .place);
+      slot = ap (λ (q : Place). q .slot) (o .place);
       word = λ k m. ap (λ (z : ℕ). getD d (z + k) 0) (sym a) ∙ c .word k m;
       room = rw (← a) (c .room);
       fits = rw (← a, ← l) (c .fits);
-      small = omega arith;
+      small = place-small v d h (Open x) p (ap foundOf (o .is) ∙ ap At (o .place));
     }
 
 -- the name that stands at the place is the entry's
@@ -118,9 +122,9 @@ closed-over d x n p o u = rw (o .is, u)
 
 pub closed-on : (d : List ℕ) (x n : ℕ) (p : Place) (o : Opened d x p) → Ready d p (o .row)
     → overProtected d (nameOf (o .row .entry)) ≡ false
-    → closedOn d x n ≡ record { answer = granted (p .first) n (p .date); words = write d (closing d (o .row) n) }
+    → closedOn d x n ≡ record { answer = answerWith p n; words = write d (closing d (o .row) n) }
 unfolding closedOn closedAt success
-closed-on d x n p o q u = rw (o .is, u, q .first, q .date)
+closed-on d x n p o q u = rw (o .is, u, q .first, q .date, q .seg, q .slot)
 
 -- a slot inside the directory leaves room for an entry's seven words
 pub inside-less : (f : Found) (w n m : ℕ) → 7 ≤ w → n ≡ m → Inside f w n → Inside f 7 m

@@ -10,7 +10,7 @@ use lib.Dec.{leb}
 use Rattle.meaning.specs.declared.Name.{Name}
 use Rattle.meaning.specs.Kinds.{emptyStatus}
 use Rattle.meaning.specs.Words.{Row, slotWords, statusWord, nameOf, dateOf}
-use Rattle.meaning.specs.Answers.{Outcome, success, unless, onRow, Write, put, write, openOn}
+use Rattle.meaning.specs.Answers.{Outcome, positionOf, success, unless, onRow, Write, put, write, openOn}
 use Rattle.meaning.specs.Requests.{givesWay, overProtected, finalLength, closing}
 use Rattle.segment.specs.declared.finder.Place.{Place}
 use Rattle.segment.specs.declared.finder.Found.{Found}
@@ -47,7 +47,7 @@ pub record Opened (d : List ℕ) (word : ℕ) (p : Place) : Type 0 where
 unfoldable pub closedAt : List ℕ → Row → ℕ → Outcome
 closedAt d r n =
     unless 20 (not (overProtected d (nameOf (r .entry)))) d λ _.
-    success (r .first) n (dateOf (r .entry)) (write d (closing d r n))
+    success (r .first) n (dateOf (r .entry)) (positionOf r) (write d (closing d r n))
 
 unfoldable pub closedOn : List ℕ → ℕ → ℕ → Outcome
 closedOn d word n = onRow 15 (openOn d word) d λ r. closedAt d r n

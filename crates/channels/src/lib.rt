@@ -3,6 +3,7 @@
 use edits::change::give_status;
 use edits::change::make_permanent;
 use find::find_entry;
+use find::found::answered_with;
 use find::found::is_protected;
 use find::found::restate_found;
 use meaning::Answer;
@@ -12,7 +13,6 @@ use meaning::Key;
 use meaning::Name;
 use meaning::is_spared;
 use meaning::refused;
-use meaning::succeeded;
 use segment::finder::Found;
 use segment::finder::Place;
 use segment::naming::name_at;
@@ -110,7 +110,7 @@ fn close_at(d: &mut [u16], v: usize, word: u16, place: Place, size: u16) -> Answ
     }
     make_permanent(d, at, next, size);
     empty_old(d, old);
-    succeeded(place.first as u16, size, place.date)
+    answered_with(place, size)
 }
 
 pub fn close_sound(d: &mut [u16], v: usize, job: u16, channel: u16, size: i32) -> Answer

@@ -5,6 +5,7 @@ use crate::input::read_bytes;
 use crate::input::request_at;
 use crate::input::word_at;
 use crate::output::check_of;
+use crate::output::numbers_of;
 use crate::output::write_line;
 use crate::state::State;
 use crate::state::passed;
@@ -59,15 +60,11 @@ fn no_answers() -> [Answer; 8] {
     [meaning::refused(0); 8]
 }
 
-// One answer of a batch.
+// One answer of a batch, without a check.
 fn write_one(answer: Answer) -> bool {
-    let numbers = [
-        answer.number as u64,
-        answer.first as u64,
-        answer.length as u64,
-        answer.date as u64,
-    ];
-    write_line(b"", &numbers)
+    let numbers = numbers_of(answer, 0);
+    let line = &numbers[..];
+    write_line(b"", &line[0..6])
 }
 
 // The first answers of a batch, so many.

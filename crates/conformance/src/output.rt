@@ -3,7 +3,7 @@ use libc::STDOUT_FILENO;
 use meaning::Answer;
 ghost use Prim.Native.Nat.{_≤_};
 
-// A word of five letters and five numbers of up to twenty digits, each with a byte before it, have room.
+// A word of five letters, six numbers that are words and one of up to twenty digits, each with a byte before it, have room.
 const ROOM: usize = 128;
 
 // The divisor of the check: the largest prime below 65,536.
@@ -71,6 +71,19 @@ pub(crate) fn write_line(word: &[u8], numbers: &[u64]) -> bool {
     let at = put_numbers(&mut line, at, numbers);
     let end = put(&mut line, at, b"\n");
     write_out(&line, end)
+}
+
+// The numbers of an answer, in the order of its line, and the check behind them.
+pub(crate) fn numbers_of(answer: Answer, check: u64) -> [u64; 7] {
+    [
+        answer.number as u64,
+        answer.first as u64,
+        answer.length as u64,
+        answer.date as u64,
+        answer.segment as u64,
+        answer.slot as u64,
+        check,
+    ]
 }
 
 fn wide_word(word: u16) -> u64

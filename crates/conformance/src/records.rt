@@ -6,6 +6,7 @@ use crate::input::read_words;
 use crate::input::request_at;
 use crate::input::word_at;
 use crate::output::check_of;
+use crate::output::numbers_of;
 use crate::output::write_line;
 use crate::state::State;
 use crate::state::passed;
@@ -60,14 +61,7 @@ fn write_answer(d: &[u16], state: State, answer: Answer) -> State
     ensures { λ r. ⌜ r .words ≤ 15872 ⌝ }
 {
     let n = state.words;
-    let check = check_of(&d[0..n]);
-    let numbers = [
-        answer.number as u64,
-        answer.first as u64,
-        answer.length as u64,
-        answer.date as u64,
-        check,
-    ];
+    let numbers = numbers_of(answer, check_of(&d[0..n]));
     passed(state, 0, write_line(b"", &numbers))
 }
 

@@ -3,6 +3,7 @@ use chain::head::size_wrong;
 use directory::sound::fault_of;
 use edits::fresh::start_fresh;
 use meaning::Answer;
+use meaning::Position;
 use meaning::refused;
 use meaning::succeeded;
 ghost use mathlib.Core.Path.{_≡_};
@@ -17,7 +18,7 @@ pub fn fault(d: &[u16], v: usize) -> u16
     fault_of(d, v)
 }
 
-// A fresh start tests only 1, and then 2 for more than 16 extra words.
+// A fresh start tests only 1, and then 2 for more than 16 extra words. It answers its one area, the first entry of segment 1.
 pub fn fresh(d: &mut [u16], v: usize, extra: usize) -> Answer
     ensures { λ r. ⌜ Meets r (now (d .exit)) (fresh v (now (d .entry)) extra) ⌝ }
 {
@@ -29,5 +30,9 @@ pub fn fresh(d: &mut [u16], v: usize, extra: usize) -> Answer
     }
     let first = 6 + 2 * (d.len() / 512);
     start_fresh(d, v, extra);
-    succeeded(first as u16, (v - first) as u16, 0)
+    let area = Position {
+        segment: 1,
+        slot: 1,
+    };
+    succeeded(first as u16, (v - first) as u16, 0, area)
 }

@@ -14,7 +14,7 @@ use Rattle.meaning.specs.Words.{slotWords, slotCount, lengthWord, Entry, blocks
 use Rattle.meaning.specs.Words.{total, chain}
 use Rattle.meaning.specs.Sound.{fault}
 use Rattle.meaning.specs.Answers.{success, isNone}
-use Rattle.meaning.specs.Enter.{Area, tidied, areas, eligibles, firstFit, unsplit, split, entered}
+use Rattle.meaning.specs.Enter.{Area, tidied, areas, eligibles, firstFit, unsplit, split, entered, splitAt, enteredAt}
 use Rattle.walks.proofs.Words.{word, header}
 use Rattle.walks.proofs.Slots.{entry-at}
 use Rattle.walks.proofs.Unbroken.{unbroken}
@@ -49,6 +49,10 @@ entry-blocks t s k h l =
 same-area : (t : List ℕ) (new : Entry) (n w : ℕ) (a : Area) → entered t new n a ≡ entered t new n (areaOf (spotAt (placeOfArea w a)))
 unfolding entered unsplit split
 same-area t new n w a = refl
+
+same-position : (t : List ℕ) (w : ℕ) (a : Area) → enteredAt t a ≡ enteredAt t (areaOf (spotAt (placeOfArea w a)))
+unfolding enteredAt splitAt
+same-position t w a = refl
 
 place-at : (p : AreaPlace) (a : Area) (w : ℕ) → p ≡ placeOfArea w a → p .at ≡ 512 * (p .seg - 1) + 5 + p .before * w
 place-at p a w e = rw e
@@ -101,15 +105,17 @@ module _ (v : ℕ) (d : List ℕ) (h : fault v d ≡ 0) (n : ℕ) where
   -- the outcome
   placed-area : (a : Area) (p : AreaPlace) → p ≡ placeOfArea (slotWords t) a → firstFit n (eligibles (areas t (chain t))) ≡ some a
       → (name : Name) (channel date : ℕ)
-      → placedIn d name n channel date ≡ success (p .first) n date (entered t (newOf t name n channel date) n (areaOf (spotAt p)))
+      → placedIn d name n channel date
+      ≡ success (p .first) n date (enteredAt t (areaOf (spotAt p))) (entered t (newOf t name n channel date) n (areaOf (spotAt p)))
   placed-area a p q e name channel date =
       let i : firstFit n (eligibles (areas t (chain d))) ≡ some a =
       ap (λ (ss : List ℕ). firstFit n (eligibles (areas t ss))) (sym (kept .links)) ∙ e in
       let w : slotWords t ≡ slotWords d = slots-same d t kept in
-      rw (i, q, w, same-area t (newOf d name n channel date) n (slotWords d) a)
+      rw (i, q, w, same-area t (newOf d name n channel date) n (slotWords d) a, same-position t (slotWords d) a)
 
   pub placed-at : (p : AreaPlace) → Fitted (At p) t n → (name : Name) (channel date : ℕ)
-      → placedIn d name n channel date ≡ success (p .first) n date (entered t (newOf t name n channel date) n (areaOf (spotAt p)))
+      → placedIn d name n channel date
+      ≡ success (p .first) n date (enteredAt t (areaOf (spotAt p))) (entered t (newOf t name n channel date) n (areaOf (spotAt p)))
   placed-at p k =
       let b = chosen-area (slotWords t) (firstFit n (eligibles (areas t (chain t)))) p (k .is) in
       placed-area (b .0) p (b .2) (b .1)

@@ -64,8 +64,8 @@ fn place_file(
         channel,
         date,
     };
-    enter_area(d, spot, new);
-    succeeded(area.first as u16, blocks, date)
+    let position = enter_area(d, spot, new);
+    succeeded(area.first as u16, blocks, date, position)
 }
 
 // Enter, once nothing but want of room can refuse it.

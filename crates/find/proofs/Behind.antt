@@ -1,13 +1,13 @@
 -- What was found, and the row behind it: a place that was found is that of a row of the directory, so its numbers fit words. Each is by
 -- the cases of what was found.
-use Prim.Native.Nat.{ℕ, _≤_}
+use Prim.Native.Nat.{ℕ}
 use native.Mathlib.Omega.{arith}
-use mathlib.Core.Path.{_≡_, refl, sym, ap, _∙_}
+use mathlib.Core.Path.{_≡_, refl, sym, _∙_, subst}
 use mathlib.Core.Bool.{Bool, false}
 use mathlib.Core.List.{List, [], _∷_}
 use mathlib.Core.Option.{Option, none, some}
 use Rattle.meaning.specs.declared.Answer.{Answer}
-use Rattle.meaning.specs.Words.{statusWord, protected, Row, rows}
+use Rattle.meaning.specs.Words.{Entry, statusWord, protected, Row, rows}
 use Rattle.meaning.specs.Sound.{fault}
 use Rattle.meaning.specs.Answers.{refuse, success, onRow, isNone, isProtected, find, fileOf, openOn, put, write}
 use Rattle.meaning.specs.Requests.{successWith, restating, givesWay, overProtected}
@@ -19,8 +19,11 @@ use Rattle.segment.specs.declared.finder.Place.{Place}
 use Rattle.segment.specs.declared.finder.Found.{Found}
 use Rattle.segment.specs.declared.finder.Found.the-variants.{At, Nothing}
 use Rattle.segment.specs.Finder.{placeOf, foundOf}
+use Rattle.rules.proofs.Soundness.{sound}
+use Rattle.rules.proofs.Rows.{find-some}
 use Rattle.rules.proofs.Grown.{row-ends}
-use Rattle.find.specs.Find.{protectedAt, answerAt, restated}
+use Rattle.rules.proofs.Standing.{RowStands, rows-stand, stands-small}
+use Rattle.find.specs.Find.{protectedAt, FitsWords, answerAt, restated}
 
 -- a row behind a place that was found
 pub record Behind (o : Option Row) (p : Place) : Type 0 where
@@ -36,13 +39,19 @@ pub found-none : (o : Option Row) → foundOf o ≡ Nothing → o ≡ none
 found-none none e = refl
 found-none (some r) e = absurd (let z : _≡_ {A = ℕ} 0 1 = cc in omega arith)
 
--- a place that was found in a sound directory has a first block that fits a word
-pub first-fits : (v : ℕ) (d : List ℕ) → fault v d ≡ 0 → (key : Key) (p : Place) → foundOf (find (holds key) (rows d)) ≡ At p → p .first ≤ 65535
-first-fits v d h key p e =
+-- a place that was found in a sound directory has numbers that fit words
+row-small : (v : ℕ) (d : List ℕ) → fault v d ≡ 0 → (t : Entry → Bool) (r : Row) → find t (rows d) ≡ some r → FitsWords (placeOf r)
+row-small v d h t r e =
+    let s = sound v d h in
+    let l = row-ends v d h t r e in
+    let x = find-some (RowStands d) t (rows d) r (rows-stand v d s) e .0 in
+    let m = stands-small v d s (r .seg) (r .slot) (r .first) (r .entry) x in
+    record { first = omega arith; seg = omega (arith, m .0); slot = omega (arith, m .1) }
+
+pub place-small : (v : ℕ) (d : List ℕ) → fault v d ≡ 0 → (key : Key) (p : Place) → foundOf (find (holds key) (rows d)) ≡ At p → FitsWords p
+place-small v d h key p e =
     let b = found-some (find (holds key) (rows d)) p e in
-    let l = row-ends v d h (holds key) (b .row) (b .is) in
-    let q : b .row .first ≡ p .first = ap (λ (x : Place). x .first) (b .place) in
-    omega arith
+    subst FitsWords (b .place) (row-small v d h (holds key) (b .row) (b .is))
 
 -- the file of a name, and the tentative entry on a channel word, as they were looked for
 pub file-found : (d : List ℕ) (n : Name) (p : Place) → foundOf (find (holds (File n)) (rows d)) ≡ At p → Behind (fileOf d n) p

@@ -1,5 +1,5 @@
 -- What the finder promises: the first row of the directory that is looked for, as a place; and what requests make of it.
-use Prim.Native.Nat.{ℕ}
+use Prim.Native.Nat.{ℕ, _≤_}
 use mathlib.Core.Path.{_≡_}
 use mathlib.Core.Bool.{Bool, false}
 use mathlib.Core.List.{List}
@@ -27,9 +27,18 @@ abbrev pub protectedAt : Found → Bool
 protectedAt (At p) = eqb (p .status) protectedStatus
 protectedAt Nothing = false
 
--- the answer of a success with the entry at a place
+-- the numbers of a place that an answer tells are words
+pub record FitsWords (p : Place) : Type 0 where
+  pub first : p .first ≤ 65535
+  pub seg : p .seg ≤ 65535
+  pub slot : p .slot ≤ 65535
+
+-- the answer of a success with the entry at a place, of n blocks afterwards; or of as many as before
+abbrev pub answerWith : Place → ℕ → Answer
+answerWith p n = granted (p .first) n (p .date) (record { segment = p .seg; slot = p .slot })
+
 abbrev pub answerAt : Place → Answer
-answerAt p = granted (p .first) (p .length) (p .date)
+answerAt p = answerWith p (p .length)
 
 -- abandon, protect and unprotect, once nothing but a missing entry can refuse them
 unfoldable pub restated : List ℕ → Key → ℕ → ℕ → Outcome

@@ -3,16 +3,16 @@ use crate::find_entry;
 use edits::change::give_status;
 use meaning::Answer;
 use meaning::Key;
+use meaning::Position;
 use meaning::refused;
 use meaning::succeeded;
 use segment::finder::Found;
 use segment::finder::Place;
 use segment::kinds;
 ghost use mathlib.Core.Path.{_≡_};
-ghost use Prim.Native.Nat.{_≤_};
 ghost use Rattle.meaning.specs.Sound.{fault};
 ghost use Rattle.meaning.specs.Answers.{Meets};
-ghost use Rattle.find.specs.Find.{protectedAt, answerAt, restated};
+ghost use Rattle.find.specs.Find.{protectedAt, FitsWords, answerWith, answerAt, restated};
 
 // Whether a protected file was found.
 pub fn is_protected(found: Found) -> bool
@@ -24,12 +24,24 @@ pub fn is_protected(found: Found) -> bool
     }
 }
 
-// Success answers the entry at a place; in a sound directory its first block fits a word.
+// Success answers the entry at a place, which has this length afterwards; in a sound directory its numbers fit words.
+pub fn answered_with(place: Place, length: u16) -> Answer
+    requires { ⌜ FitsWords place ⌝ }
+    ensures { λ r. ⌜ r ≡ answerWith place length ⌝ }
+{
+    let position = Position {
+        segment: place.seg as u16,
+        slot: place.slot as u16,
+    };
+    succeeded(place.first as u16, length, place.date, position)
+}
+
 pub fn answered(place: Place) -> Answer
-    requires { ⌜ place .first ≤ 65535 ⌝ }
+    requires { ⌜ FitsWords place ⌝ }
     ensures { λ r. ⌜ r ≡ answerAt place ⌝ }
 {
-    succeeded(place.first as u16, place.length, place.date)
+    let length = place.length;
+    answered_with(place, length)
 }
 
 // The entry that is looked for gets another status; where there is none, the number of that refusal.

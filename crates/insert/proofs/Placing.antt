@@ -11,10 +11,11 @@ use lib.Seq.{paste, take-length, getD-take}
 use lib.Dec.{leb, ltb}
 use borrow.Rule.Slice.PartMut.{putMid}
 use borrow.Author.Tests.{le-leb, lt-leb, ltb-true}
+use Rattle.meaning.specs.declared.Position.{Position}
 use Rattle.meaning.specs.Kinds.{tentativeStatus}
 use Rattle.meaning.specs.Words.{Entry, segment, slotWords, slotCount, capacity, slots, upto, entries, blocks, highest, segments}
 use Rattle.meaning.specs.Requests.{entryOf}
-use Rattle.meaning.specs.Enter.{withSegment, headerOf, kept, unsplit, split, entered, hasRoom}
+use Rattle.meaning.specs.Enter.{withSegment, headerOf, kept, unsplit, split, entered, hasRoom, newAfter, splitAt, enteredAt}
 use Rattle.chain.specs.Chained.{Chained}
 use Rattle.chain.proofs.Links.{part-is}
 use Rattle.chain.proofs.Replaced.{partOf, part-put}
@@ -23,7 +24,7 @@ use Rattle.insert.specs.declared.place.Spot.{Spot}
 use Rattle.render.specs.Anew.{newEntry}
 use Rattle.segment.specs.Count.{Counted}
 use Rattle.render.specs.Halves.{KeptOf}
-use Rattle.insert.specs.Spots.{areaOf, Chosen, Splittable, Enterable, Slot, Half, wholeSegment, oldSegment, freshSegment}
+use Rattle.insert.specs.Spots.{areaOf, Chosen, Splittable, Enterable, Slot, Half, wholeSegment, oldSegment, freshSegment, Put, halfAt}
 use Rattle.segment.proofs.Writes.{pasted}
 use Rattle.walks.proofs.Slots.{entries-count}
 use Rattle.walks.proofs.Flat.{render-length, entry-length}
@@ -164,6 +165,20 @@ module _ {t : List ℕ} {w : ℕ} {a : List ℕ} (e : Tentative) (c : Chained t)
           i,
         )
 
+    -- where the new entry is after the split
+    pub half-is : (n : ℕ) → KeptOf n (upto (slots w (partOf t (p .seg)))) → halfAt p n (highest t + 1) ≡ splitAt t (areaOf p)
+    unfolding halfAt splitAt
+    half-is n k = rw (k .is ∙ ap kept (part-entries t (p .seg) w i))
+
+-- the numbers of a chosen spot fit words
+pub spot-small : (t : List ℕ) (p : Spot) (n : ℕ) → Chained t → Chosen t p n
+    → (p .seg ≤ 65535) × (highest t + 1 ≤ 65535) × (p .before + p .cost ≤ 65535)
+unfolding entries
+spot-small t p n c h =
+    let m = entries-count (slotWords t) (segment t (p .seg)) in
+    let q = few-slots (slotWords t) in
+    (omega (arith, h .high, c .whole, c .few), omega (arith, c .whole, c .few), omega (arith, h .there, h .cheap))
+
 -- the choice between the two, by the count n of the segment's entries
 module _ {t : List ℕ} {p : Spot} {b w n : ℕ} (r : Enterable t p b) (i : w ≡ slotWords t) (k : Counted n w (partOf t (p .seg))) where
   pub count-is : n ≡ length (entries t (p .seg))
@@ -183,12 +198,14 @@ module _ {t : List ℕ} {p : Spot} {b w n : ℕ} (r : Enterable t p b) (i : w �
       let e : ltb (highest t) (segments t) ≡ true = rw (lacks h) at (r .room) in
       record { more = ltb-true (highest t) (segments t) e; sums = r .sums }
 
-  pub entered-whole : (x : List ℕ) (new : Entry) → n + p .cost < 507 / w → x ≡ unsplit t new b (areaOf p) → x ≡ entered t new b (areaOf p)
-  unfolding entered
-  entered-whole x new h e =
-      let f : n + p .cost ≤ capacity t = fits-in h in
-      rw (← count-is, le-leb (n + p .cost) (capacity t) f) e
+  pub entered-whole : (r : Position) (x : List ℕ) (new : Entry) → n + p .cost < 507 / w → r ≡ newAfter (p .seg) (p .before) (p .cost)
+      → x ≡ unsplit t new b (areaOf p) → Put r x (enteredAt t (areaOf p)) (entered t new b (areaOf p))
+  unfolding entered enteredAt
+  entered-whole r x new h g e =
+      let f : leb (n + p .cost) (capacity t) ≡ true = le-leb (n + p .cost) (capacity t) (fits-in h) in
+      record { position = rw (← count-is, f) g; words = rw (← count-is, f) e }
 
-  pub entered-split : (x : List ℕ) (new : Entry) → 507 / w ≤ n + p .cost → x ≡ split t new b (areaOf p) → x ≡ entered t new b (areaOf p)
-  unfolding entered
-  entered-split x new h e = rw (lacks h) e
+  pub entered-split : (r : Position) (x : List ℕ) (new : Entry) → 507 / w ≤ n + p .cost
+      → Put r x (splitAt t (areaOf p)) (split t new b (areaOf p)) → Put r x (enteredAt t (areaOf p)) (entered t new b (areaOf p))
+  unfolding entered enteredAt
+  entered-split r x new h e = record { position = rw (lacks h) (e .position); words = rw (lacks h) (e .words) }

@@ -5,9 +5,10 @@ use mathlib.Core.Bool.{true, cond}
 use mathlib.Core.List.{List, [], _∷_}
 use lib.ListN.{length, getD, take, drop, set}
 use lib.Dec.{ltb}
+use Rattle.meaning.specs.declared.Position.{Position}
 use Rattle.meaning.specs.Words.{Entry, blocks, segments, segment, linkOf, firstOf, highest, slotWords, slots, upto, entries, total}
 use Rattle.meaning.specs.Requests.{render}
-use Rattle.meaning.specs.Enter.{Area, inserted, hasRoom}
+use Rattle.meaning.specs.Enter.{Area, inserted, hasRoom, newAfter}
 use Rattle.chain.specs.Chained.{Chained}
 use Rattle.insert.specs.declared.place.Spot.{Spot}
 use Rattle.render.specs.Halves.{KeptOf}
@@ -72,3 +73,12 @@ freshSegment g new p h all extra =
     let high = drop h es in
     render (all ∷ linkOf g ∷ 0 ∷ extra ∷ (firstOf g + total (take h es)) ∷ [])
     (cond (ltb (p .before) h) high (inserted (length new) new (blocks new) (p .cost) (p .before - h) high))
+
+-- what is promised of a directory that gets the new entry: where that is, and the words after
+pub record Put (r : Position) (after : List ℕ) (p : Position) (d : List ℕ) : Type 0 where
+  pub position : r ≡ p
+  pub words : after ≡ d
+
+-- where the new entry is after a split that keeps h entries, with the segment that follows
+unfoldable pub halfAt : Spot → ℕ → ℕ → Position
+halfAt p h next = cond (ltb (p .before) h) (newAfter (p .seg) (p .before) (p .cost)) (newAfter next (p .before - h) (p .cost))

@@ -1,5 +1,6 @@
 // The new entry placed in the area that was chosen: inserted into its segment, in place, or into a half of it after a split, where both
 // halves are made anew.
+use meaning::Position;
 use render::Tentative;
 use render::measure;
 use segment::copying::copy_words;
@@ -8,10 +9,10 @@ ghost use mathlib.Core.Path.{_≡_};
 ghost use Prim.Native.Nat.{_+_, _≤_, _<_};
 ghost use lib.ListN.{length};
 ghost use Rattle.meaning.specs.Words.{slotWords, slotCount, capacity, slots, upto, entries};
-ghost use Rattle.meaning.specs.Enter.{unsplit, split, entered};
+ghost use Rattle.meaning.specs.Enter.{unsplit, split, entered, newAfter, splitAt, enteredAt};
 ghost use Rattle.chain.specs.Chained.{Chained};
 ghost use Rattle.render.specs.Anew.{newEntry};
-ghost use Rattle.insert.specs.Spots.{areaOf, Chosen, Slot, Half, wholeSegment, oldSegment, freshSegment, Splittable, Enterable};
+ghost use Rattle.insert.specs.Spots.{areaOf, Chosen, Slot, Half, wholeSegment, oldSegment, freshSegment, Splittable, Enterable, Put, halfAt};
 
 // The area chosen: its segment, how many of the segment's entries stand before it, the word where its slot begins, and its cost.
 pub struct Spot {
@@ -95,12 +96,34 @@ fn fresh_segment(
     render::inserted_segment(&header, slots, spot.word - start, spot.cost, new)
 }
 
-// The segment of the area split in two, and the new entry inserted into the half that has the area.
-pub fn split_and_insert(directory: &mut [u16], spot: Spot, count: usize, new: Tentative)
+// Where the new entry is after so many entries of a segment: in the last of the slots that it costs.
+fn new_after(segment: usize, before: usize, cost: usize) -> Position
+    requires { ⌜ (segment ≤ 65535) × (before + cost ≤ 65535) ⌝ }
+    ensures { λ r. ⌜ r ≡ newAfter segment before cost ⌝ }
+{
+    Position {
+        segment: segment as u16,
+        slot: (before + cost) as u16,
+    }
+}
+
+// Where the new entry is after a split: in the half that has its area.
+fn half_position(spot: Spot, kept: usize, next: usize) -> Position
+    requires { ⌜ (spot .seg ≤ 65535) × (next ≤ 65535) × (spot .before + spot .cost ≤ 65535) ⌝ }
+    ensures { λ r. ⌜ r ≡ halfAt spot kept next ⌝ }
+{
+    if spot.before < kept {
+        return new_after(spot.seg, spot.before, spot.cost);
+    }
+    new_after(next, spot.before - kept, spot.cost)
+}
+
+// The segment of the area split in two, and the new entry inserted into the half that has the area. Answers where it is.
+pub fn split_and_insert(directory: &mut [u16], spot: Spot, count: usize, new: Tentative) -> Position
     requires { ⌜ Chained (now directory) × Chosen (now directory) spot (new .length)
         × (count ≡ length (entries (now directory) (spot .seg))) × Splittable (now directory) (spot .seg) ⌝ }
-    ensures { λ _. ⌜ now (directory .exit) ≡ split (now (directory .entry)) (newEntry (slotWords (now (directory .entry))) new)
-        (new .length) (areaOf spot) ⌝ }
+    ensures { λ r. ⌜ Put r (now (directory .exit)) (splitAt (now (directory .entry)) (areaOf spot))
+        (split (now (directory .entry)) (newEntry (slotWords (now (directory .entry))) new) (new .length) (areaOf spot)) ⌝ }
 {
     let width = slot_words(directory);
     let entry = render::entry_words(new);
@@ -116,13 +139,14 @@ pub fn split_and_insert(directory: &mut [u16], spot: Spot, count: usize, new: Te
     copy_words(&old, directory, base);
     copy_words(&fresh, directory, 512 * highest as usize);
     directory[2] = next;
+    half_position(spot, kept, next as usize)
 }
 
-// A split comes only where the area's segment has not the slots; its marker needs one too.
-pub fn enter_area(directory: &mut [u16], spot: Spot, new: Tentative)
+// A split comes only where the area's segment has not the slots; its marker needs one too. Answers where the new entry is.
+pub fn enter_area(directory: &mut [u16], spot: Spot, new: Tentative) -> Position
     requires { ⌜ Enterable (now directory) spot (new .length) ⌝ }
-    ensures { λ _. ⌜ now (directory .exit) ≡ entered (now (directory .entry)) (newEntry (slotWords (now (directory .entry))) new)
-        (new .length) (areaOf spot) ⌝ }
+    ensures { λ r. ⌜ Put r (now (directory .exit)) (enteredAt (now (directory .entry)) (areaOf spot))
+        (entered (now (directory .entry)) (newEntry (slotWords (now (directory .entry))) new) (new .length) (areaOf spot)) ⌝ }
 {
     let width = slot_words(directory);
     let base = 512 * (spot.seg - 1);
@@ -130,7 +154,7 @@ pub fn enter_area(directory: &mut [u16], spot: Spot, new: Tentative)
     let count = count::count_entries(&directory[base..end], width);
     if count + spot.cost < 507 / width {
         insert(directory, spot, count, new);
-        return;
+        return new_after(spot.seg, spot.before, spot.cost);
     }
-    split_and_insert(directory, spot, count, new);
+    split_and_insert(directory, spot, count, new)
 }

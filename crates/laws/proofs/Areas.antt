@@ -20,7 +20,7 @@ use Rattle.walks.proofs.Alls.{all-map, all-append}
 use Rattle.rules.proofs.Soundness.{Sound}
 use Rattle.rules.proofs.Fine.{flag}
 use Rattle.walks.proofs.Told.{empty-kind}
-use Rattle.laws.proofs.Way.{Used}
+use Rattle.walks.proofs.Linked.{Used}
 
 -- an area among entries that stand after k others, from block b on, after a tentative one if p says so
 pub record Stands (room : ℕ → Bool) (k b : ℕ) (p : Bool) (es : List Entry) (a : Area) : Type 0 where

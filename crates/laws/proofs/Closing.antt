@@ -22,7 +22,7 @@ use Rattle.meaning.specs.Requests.{emptying, replacing}
 use Rattle.meaning.specs.declared.Key.{Key}
 use Rattle.meaning.specs.declared.Key.the-variants.{File, Open}
 use Rattle.meaning.specs.Keys.{holds, once}
-use Rattle.laws.specs.Order.{OnOpen}
+use Rattle.laws.specs.Order.{OnFound}
 use Rattle.walks.specs.Lists.{All}
 use Rattle.walks.proofs.Alls.{all-both}
 use Rattle.rules.proofs.Grid.{entryAt, word-at, not-first}
@@ -45,7 +45,7 @@ closeWrites r w n x o =
 
 -- a row is the one replaced, if any is
 abbrev pub Replaced : Option Row → Row → Type 0
-Replaced o x = OnOpen o (λ (z : Row). x .at ≡ z .at)
+Replaced o x = OnFound o (λ (z : Row). x .at ≡ z .at)
 
 tentative≢permanent : Tentative ≡ Permanent → ⊥
 tentative≢permanent h = let z : _≡_ {A = ℕ} 0 1 = cc in omega arith

@@ -22,7 +22,7 @@ use Rattle.meaning.specs.Requests.{legal, emptying, restating, goodChannel, wor
 use Rattle.meaning.specs.declared.Key.{Key}
 use Rattle.meaning.specs.declared.Key.the-variants.{File, Open}
 use Rattle.meaning.specs.Keys.{holds, spared, once}
-use Rattle.laws.specs.Order.{OnOpen}
+use Rattle.laws.specs.Order.{OnFound}
 use Rattle.walks.specs.Lists.{All}
 use Rattle.walks.proofs.Alls.{all-map}
 use Rattle.rules.proofs.Keys.{once-file, once-open, no-old, old-file}
@@ -71,15 +71,15 @@ module _ (v : ℕ) (d : List ℕ) (s : Sound v d) where
   abbrev st : All (Stand d) (rows d)
   st = standing v d s
 
-  emptied : (k : Key) → once k ≡ true → (r : Row) → find (holds k) (rows d) ≡ some r → Gone d k (emptying r)
+  emptied : (k : Key) → once k ≡ true → (r : Row) → find (holds k) (rows d) ≡ some r → Gone d r k (emptying r)
   emptied k o r e =
       let f = found-by v d s k r e in
       clearing d st r (f .stand) k o (f .has) (f .only o)
 
-  pub file-gone : (n : Name) → once (File n) ≡ true → (r : Row) → fileOf d n ≡ some r → Gone d (File n) (emptying r)
+  pub file-gone : (n : Name) → once (File n) ≡ true → (r : Row) → fileOf d n ≡ some r → Gone d r (File n) (emptying r)
   file-gone n o r e = emptied (File n) o r (sym (file-key d n) ∙ e)
 
-  pub open-gone : (x : ℕ) (r : Row) → openOn d x ≡ some r → Gone d (Open x) (emptying r)
+  pub open-gone : (x : ℕ) (r : Row) → openOn d x ≡ some r → Gone d r (Open x) (emptying r)
   open-gone x r e = emptied (Open x) (once-open x) r (sym (open-key d x) ∙ e)
 
   pub file-stated : (name : Name) → once (File name) ≡ true → (r : Row) → fileOf d name ≡ some r → legal name ≡ true
@@ -133,10 +133,10 @@ abbrev pub openAt : List ℕ → ℕ → ℕ → Option Row
 openAt d job ch = cond (goodChannel job ch) (openOn d (wordOf job ch)) none
 
 abbrev pub CloseNames : ℕ → Option Row → Key → Type 0
-CloseNames x o k = OnOpen o (λ r. (k ≡ Open x) ⊎ (k ≡ File (nameOf (r .entry))))
+CloseNames x o k = OnFound o (λ r. (k ≡ Open x) ⊎ (k ≡ File (nameOf (r .entry))))
 
 abbrev pub AbandonNames : ℕ → Option Row → Key → Type 0
-AbandonNames x o k = OnOpen o (λ r. k ≡ Open x)
+AbandonNames x o k = OnFound o (λ r. k ≡ Open x)
 
 pub open-at : (d : List ℕ) (job ch : ℕ) (r : Row) → goodChannel job ch ≡ true → openOn d (wordOf job ch) ≡ some r
     → openAt d job ch ≡ some r

@@ -1,6 +1,6 @@
 -- Demand 2, *Kept* of enter. A refusal leaves the directory. Else the tidied directory has the same living entries as the one before,
 -- and the tentative entry is the one more: so the directory is sound, every file is found as before, and the new entry's channel, on
--- which nothing was open, finds it where the answer says.
+-- which nothing was open, finds it from the block that the answer says; it stands in the answer's segment and slot.
 use Prim.Native.Nat.{ℕ, _-_, _≤_}
 use mathlib.Core.Path.{_≡_, refl, sym, ap, _∙_, subst}
 use mathlib.Core.Bool.{Bool, true, false}
@@ -14,25 +14,27 @@ use Rattle.meaning.specs.declared.Answer.{Answer}
 use Rattle.meaning.specs.Kinds.{tentativeStatus, kindOf}
 use Rattle.meaning.specs.Words.{slotWords, Entry, nameOf, blocks, dateOf, chain, Row, rows}
 use Rattle.meaning.specs.Sound.{fault, longName}
-use Rattle.meaning.specs.Answers.{Outcome, refuse, success, unless, onRow, find, fileOf, openOn}
-use Rattle.meaning.specs.Requests.{legal, successWith, lookup, wordOf, entryOf}
-use Rattle.meaning.specs.Enter.{Size, exact, sizeOf, Area, wanted, entered, firstFit, enter}
+use Rattle.meaning.specs.Answers.{Outcome, refuse, success, find, fileOf, openOn}
+use Rattle.meaning.specs.Requests.{legal, lookup, wordOf, entryOf}
+use Rattle.meaning.specs.Enter.{Size, exact, sizeOf, Area, wanted, entered, enteredAt, firstFit, enter}
 use Rattle.meaning.specs.declared.Key.{Key}
 use Rattle.meaning.specs.declared.Key.the-variants.{File, Open}
 use Rattle.meaning.specs.Keys.{keyOf, holds}
 use Rattle.walks.specs.Lists.{All}
 use Rattle.laws.specs.Refusals.{beforeRoom}
-use Rattle.laws.specs.Kept.{AllStay}
+use Rattle.laws.specs.Kept.{AllStay, SameFile}
 use Rattle.laws.specs.Order.{filesOf}
-use Rattle.laws.specs.Room.{SameFile, KeptByEnter}
+use Rattle.laws.specs.Points.{Points}
+use Rattle.laws.specs.Room.{KeptByEnter}
 use Rattle.rules.proofs.Keys.{file≢open, IsOpen, open-holds, one-key, other-key}
 use Rattle.walks.proofs.Keyed.{has-key}
 use Rattle.laws.proofs.Refusals.{not-among}
 use Rattle.rules.proofs.Soundness.{Sound, sound, faultless}
 use Rattle.laws.proofs.Entries.{legal-short}
 use Rattle.laws.proofs.Living.{Live, livingOf, seek, face, found, Gained, gained-beside, gained-there, gained-every}
+use Rattle.laws.proofs.Lookups.{lookup-seen, same-seen}
 use Rattle.laws.proofs.Stays.{faces-stay, all-stay}
-use Rattle.laws.proofs.Way.{Used, chain-used}
+use Rattle.walks.proofs.Linked.{Used, chain-used}
 use Rattle.laws.proofs.TidiedSound.{Alike, tidied-is}
 use Rattle.laws.proofs.Areas.{chosen}
 use Rattle.laws.proofs.Inserted.{New, liveAt}
@@ -75,26 +77,8 @@ module _ (w : ℕ) (name : Name) (n x date : ℕ) where
   new-other : (k : Key) → (k ≡ Open x → ⊥) → holds k new ≡ false
   new-other k ne = other-key k (Open x) new ne new-holds
 
--- what lookup answers, by what is found
 same-as : (a : Answer) → SameFile a a
 same-as a = record { number = refl; first = refl; length = refl; date = refl }
-
-same-answer : (d e : List ℕ) (q : Bool) (o p : Option Row) → Option·map face o ≡ Option·map face p
-    → SameFile ((unless 7 q d λ _. onRow 13 o d λ r. successWith r d) .answer)
-    ((unless 7 q e λ _. onRow 13 p e λ r. successWith r e) .answer)
-unfolding refuse successWith success
-same-answer d e false o p h = same-as _
-same-answer d e true none none h = same-as _
-same-answer d e true none (some r) h = absurd (Option·none-ne-some (face r) h)
-same-answer d e true (some r) (some s) h =
-    let f : face r ≡ face s = cc in
-    record {
-      number = refl;
-      first = ap (λ (l : Live). l .first) f;
-      length = ap (λ (l : Live). blocks (l .entry)) f;
-      date = ap (λ (l : Live). dateOf (l .entry)) f;
-    }
-same-answer d e true (some r) none h = absurd (Option·none-ne-some (face r) (sym h))
 
 -- what is found is there
 found-row : (o : Option Row) (x : Live) → Option·map face o ≡ some x → (r : Row) × (o ≡ some r) × (face r ≡ x)
@@ -143,9 +127,9 @@ module _ (v : ℕ) (d : List ℕ) (h : fault v d ≡ 0) (name : Name) (asked : �
     D = entered t e n p
 
     used-chain : All (Used t) (chain d)
-    used-chain = subst (All (Used t)) (ti .chain) (chain-used v t (ti .sound))
+    used-chain = subst (All (Used t)) (ti .chain) (chain-used t (ti .sound .links))
 
-    en : Entered v t D (liveAt (p .first) e)
+    en : Entered v t D (liveAt (p .first) e) (enteredAt t p)
     en =
         is-entered v t (ti .sound) p n e (chosen t (chain d) used-chain n p fit)
         (rw (ti .extra) (new-is (slotWords d) name n x date (omega arith) (legal-short name is-legal)))
@@ -164,8 +148,10 @@ module _ (v : ℕ) (d : List ℕ) (h : fault v d ≡ 0) (name : Name) (asked : �
         ∙ sym (found v d sd k)
 
     files-same : (m : Name) → SameFile (lookup v D m .answer) (lookup v d m .answer)
-    unfolding lookup fileOf
-    files-same m = rw (fault-none, h) (same-answer D d (legal m) (fileOf D m) (fileOf d m) (found-same (File m) (file≢open m x)))
+    unfolding fileOf
+    files-same m =
+        rw (lookup-seen v D fault-none m, lookup-seen v d h m)
+        (same-seen (legal m) (fileOf D m) (fileOf d m) (found-same (File m) (file≢open m x)))
 
     there : (r : Row) × (openOn D x ≡ some r) × (face r ≡ liveAt (p .first) e)
     unfolding openOn
@@ -175,7 +161,7 @@ module _ (v : ℕ) (d : List ℕ) (h : fault v d ≡ 0) (name : Name) (asked : �
         ∙ gained-there gained (holds (Open x)) (new-holds (slotWords d) name n x date)
         (sym (found v d sd (Open x)) ∙ ap (Option·map face) none-open))
 
-    entered-keeps : KeptByEnter v d name (sizeOf asked) x date (success (p .first) n date D)
+    entered-keeps : KeptByEnter v d name (sizeOf asked) x date (success (p .first) n date (enteredAt t p) D)
     unfolding success
     entered-keeps =
         record {
@@ -196,30 +182,25 @@ module _ (v : ℕ) (d : List ℕ) (h : fault v d ≡ 0) (name : Name) (asked : �
               };
         }
 
-  abbrev KeptHere : Outcome → Type 0
-  KeptHere o = KeptByEnter v d name (sizeOf asked) (wordOf job ch) date o
+  -- an enter is refused, or ends with the new entry: what holds of both holds of it
+  of-ends : (Q : Outcome → Type 0) → ((m : ℕ) → (m ≡ 0 → ⊥) → Q (refuse m d))
+      → ((p : Area) → legal name ≡ true → openOn d x ≡ none → firstFit n (eligiblesOf d) ≡ some p
+      → Q (success (p .first) n date (enteredAt t p) (entered t e n p)))
+      → Q (enter v d name asked job ch date)
+  of-ends Q before after = go (enter v d name asked job ch date) (entering d name asked job ch date v h)
+    where
+      go : (o : Outcome) → Entering d name asked job ch date o → Q o
+      go o (early m a q) = subst Q (sym q) (before m (not-among 0 m beforeRoom refl a))
+      go o (short s q) = subst Q (sym q) (before 11 (λ e. omega arith))
+      go o (crowded s s′ q) = subst Q (sym q) (before 12 (λ e. omega arith))
+      go o (taken p is-legal none-open s fit q) = subst Q (sym q) (after p is-legal none-open fit)
 
-  keeps : (o : Outcome) → Entering d name asked job ch date o → KeptByEnter v d name (sizeOf asked) x date o
-  keeps o (early m a q) = subst KeptHere (sym q) (refused-kept v d name (sizeOf asked) x date m h (not-among 0 m beforeRoom refl a))
-  keeps o (short s q) = subst KeptHere (sym q) (refused-kept v d name (sizeOf asked) x date 11 h (λ e. omega arith))
-  keeps o (crowded s s′ q) = subst KeptHere (sym q) (refused-kept v d name (sizeOf asked) x date 12 h (λ e. omega arith))
-  keeps o (taken p is-legal none-open s fit q) = subst KeptHere (sym q) (entered-keeps p is-legal none-open fit)
-
-  -- an enter leaves the words as they were, or those with the new entry: what holds of both holds of the words that it leaves
+  -- so it leaves the words as they were, or those with the new entry
   of-words : (P : List ℕ → Type 0) → P d
       → ((p : Area) → legal name ≡ true → openOn d x ≡ none → firstFit n (eligiblesOf d) ≡ some p → P (entered t e n p))
       → P (enter v d name asked job ch date .words)
   unfolding refuse success
-  of-words P before after = go (enter v d name asked job ch date) (entering d name asked job ch date v h)
-    where
-      Holds : Outcome → Type 0
-      Holds o = P (o .words)
-
-      go : (o : Outcome) → Entering d name asked job ch date o → Holds o
-      go o (early m a q) = subst Holds (sym q) before
-      go o (short s q) = subst Holds (sym q) before
-      go o (crowded s s′ q) = subst Holds (sym q) before
-      go o (taken p is-legal none-open s fit q) = subst Holds (sym q) (after p is-legal none-open fit)
+  of-words P before after = of-ends (λ (o : Outcome). P (o .words)) (λ m l. before) after
 
   -- every key but the new entry's channel finds the same first block and the same entry, in whatever slot it stands afterwards
   abbrev pub FoundAsBefore : List ℕ → Type 0
@@ -242,4 +223,26 @@ module _ (v : ℕ) (d : List ℕ) (h : fault v d ≡ 0) (name : Name) (asked : �
           (new-other (slotWords d) name n x date (File m) (file≢open m x)))
 
   pub enter-kept : KeptByEnter v d name (sizeOf asked) (wordOf job ch) date (enter v d name asked job ch date)
-  enter-kept = keeps (enter v d name asked job ch date) (entering d name asked job ch date v h)
+  enter-kept =
+      of-ends (λ (o : Outcome). KeptByEnter v d name (sizeOf asked) (wordOf job ch) date o)
+      (λ m l. refused-kept v d name (sizeOf asked) x date m h l)
+      entered-keeps
+
+  -- the answer points at the new entry
+  abbrev pub PointsAtNew : Outcome → Type 0
+  PointsAtNew o =
+      o .answer .number ≡ 0
+      → Points (o .words) (o .answer) (λ z. (keyOf z ≡ some (Open (wordOf job ch))) × (nameOf z ≡ name))
+
+  pub enter-points : PointsAtNew (enter v d name asked job ch date)
+  unfolding refuse success
+  enter-points =
+      of-ends PointsAtNew (λ m l z. absurd (l z))
+      (λ p is-legal none-open fit z.
+      record {
+        entry = e;
+        stands = en p is-legal none-open fit .stands;
+        length = new-blocks (slotWords d) name n x date;
+        date = new-date (slotWords d) name n x date;
+        concerned = (has-key (Open x) e (new-holds (slotWords d) name n x date), new-name (slotWords d) name n x date);
+      })

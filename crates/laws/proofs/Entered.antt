@@ -1,6 +1,6 @@
 -- The tentative entry in a sound directory. Where its segment has the slots, that segment is rendered again with the entry inserted;
 -- else it is split, and the two halves are the way from it to the next. Either way the directory is sound, and has one more among its
--- living entries: the new one, where the area began.
+-- living entries: the new one, where the area began, in the segment and slot that the meaning tells.
 use Prim.Native.Nat.{ℕ, zero, suc, _+_, _*_, _-_, _≤_, _<_}
 use mathlib.Core.Path.{_≡_, refl, sym, ap, ap₂, _∙_}
 use mathlib.Core.Logic.{_≢_}
@@ -9,23 +9,27 @@ use mathlib.Core.List.{List, [], _∷_, _++_, append-nil}
 use mathlib.Core.Option.{none}
 use native.Mathlib.Nat.{le-div-iff-mul-le}
 use native.Mathlib.Omega.{arith}
-use lib.ListN.{length, getD, take, drop, set, length-set, length-append}
-use lib.Seq.{getD-set-same, getD-set-other, take-set-lt, drop-set-lt, getD-append-seam}
+use lib.ListN.{length, getD, take, drop, set, length-set, length-append, length-drop}
+use lib.Seq.{getD-set-same, getD-set-other, take-set-lt, drop-set-lt, take-append-seam, getD-append-seam, take-take, take-add, length-take-le}
 use lib.Dec.{leb, ltb}
-use borrow.Author.Tests.{leb-true, ltb-true}
+use borrow.Author.Tests.{leb-true, ltb-true, ltb-false}
 use Rattle.bools.proofs.Bools.{both}
 use Rattle.meaning.specs.declared.Kind.the-variants.{Empty}
+use Rattle.meaning.specs.declared.Position.{Position}
 use Rattle.meaning.specs.Words.{segments, segment, totalOf, linkOf, extraBytesOf, firstOf, highest, slotWords, slotCount, capacity, Entry}
 use Rattle.meaning.specs.Words.{kind, blocks, chunks, slots, upto, entries, total}
 use Rattle.meaning.specs.Requests.{render}
 use Rattle.meaning.specs.Enter.{withSegment, headerOf, Area, costAfter, hasRoom, inserted, kept, unsplit, split, entered}
+use Rattle.meaning.specs.Enter.{newAfter, splitAt, enteredAt}
 use Rattle.meaning.specs.declared.Key.{Key}
 use Rattle.meaning.specs.Keys.{holds, once}
 use Rattle.rules.specs.Sound.{Rule2}
+use Rattle.rules.specs.Standing.{StandsAt}
 use Rattle.rules.proofs.Rule5.{rule1-holds, rule2-holds}
 use Rattle.rules.proofs.Soundness.{Sound}
 use Rattle.walks.proofs.Filled.{total-append}
 use Rattle.walks.proofs.Fits.{cost-small}
+use Rattle.walks.proofs.Linked.{Used}
 use Rattle.walks.proofs.Words.{header as head-word, header-length, header-word, with-length, with-own, with-other}
 use Rattle.walks.proofs.Flat.{render-length}
 use Rattle.rules.proofs.Fine.{flag}
@@ -36,7 +40,7 @@ use Rattle.laws.proofs.Anew.{stop-at, Change, Anew, anew}
 use Rattle.laws.proofs.Rewritten.{used-within, used-body, rewritten}
 use Rattle.laws.proofs.TidiedSound.{few-living}
 use Rattle.laws.proofs.Areas.{Stands, RoomIn, Chosen}
-use Rattle.laws.proofs.Inserted.{New, liveAt, Added, added-in}
+use Rattle.laws.proofs.Inserted.{New, liveAt, Added, added-in, inserted-stands}
 use Rattle.laws.proofs.Halves.{Parted, parted, Halves, halves}
 
 -- setting the word of H changes no other header word, and no slot
@@ -54,9 +58,13 @@ top-slots w d s x = ap (chunks (slotCount w) w) (go (s - 1))
     go zero = rw (take-set-lt 512 d 2 x (omega arith)) (drop-set-lt 5 (take 512 d) 2 x (omega arith))
     go (suc t) = rw (drop-set-lt (512 * suc t) d 2 x (omega arith))
 
-pub record Entered (v : ℕ) (t D : List ℕ) (x : Live) : Type 0 where
+taken : (es xs : List Entry) (e : Entry) (ys : List Entry) (k : ℕ) → es ≡ xs ++ e ∷ ys → k ≡ length xs → take k es ≡ xs
+taken es xs e ys k q i = rw (q, i, take-append-seam xs (e ∷ ys))
+
+pub record Entered (v : ℕ) (t D : List ℕ) (x : Live) (p : Position) : Type 0 where
   pub sound : Sound v D
   pub gained : Gained x (livingOf t) (livingOf D)
+  pub stands : StandsAt D (p .segment) (p .slot) (x .first) (x .entry)
 
 module _ (v : ℕ) (t : List ℕ) (st : Sound v t) (a : Area) (n : ℕ) (new : Entry) (ch : Chosen t n a) (nw : New (slotWords t) n new)
     (free : (k : Key) → holds k new ≡ true → seek (holds k) (livingOf t) ≡ none) where
@@ -105,12 +113,30 @@ module _ (v : ℕ) (t : List ℕ) (st : Sound v t) (a : Area) (n : ℕ) (new : E
   finish : (D : List ℕ) (before after : List Live) → livingOf t ≡ before ++ (living b es ++ after)
       → livingOf D ≡ before ++ (living b out ++ after)
       → (((k : Key) → once k ≡ true → counted (holds k) (livingOf D) ≤ 1) → Sound v D)
-      → Entered v t D (liveAt (a .first) new)
-  finish D before after was is sound =
-      record { sound = sound (λ k o. gained-few g (holds k) (few-living v t st k o) (free k)); gained = g }
+      → (p : Position) → StandsAt D (p .segment) (p .slot) (a .first) new → Entered v t D (liveAt (a .first) new) p
+  finish D before after was is sound p at =
+      record { sound = sound (λ k o. gained-few g (holds k) (few-living v t st k o) (free k)); gained = g; stands = at }
     where
       g : Gained (liveAt (a .first) new) (livingOf t) (livingOf D)
       g = rw (was, is, x .first) (gained-within before after (ad .gained b))
+
+  -- the area begins behind the entries before it, so many of which stand in any part of the entries that has it
+  area-first : b + total (take (a .before) es) ≡ a .first
+  area-first =
+      let k : a .before ≡ length (x .before) = omega (arith, x .place) in
+      let e = taken es (x .before) (x .here) (x .after) (a .before) (x .are) k in
+      omega (arith, ap total e, x .first)
+
+  area-within : a .before < length es
+  area-within =
+      let l = length-append (x .before) (x .here ∷ x .after) in
+      omega (arith, x .place, ap length (x .are))
+
+  -- the new entry's place in a segment of D that has the entries zs with it, after k of them
+  new-stands : (D : List ℕ) (z : ℕ) → Used D z → (k : ℕ) (zs : List Entry) → k ≤ length zs
+      → entries D z ≡ inserted w new n (a .cost) k zs → firstOf (segment D z) + total (take k zs) ≡ a .first
+      → StandsAt D z (k + a .cost) (a .first) new
+  new-stands D z u k zs l q f = inserted-stands D z u w new n (a .cost) (flag false (x .before)) k zs (x .cost) l q (a .first) f
 
   -- slots
   h2 : Rule2 t
@@ -120,14 +146,18 @@ module _ (v : ℕ) (t : List ℕ) (st : Sound v t) (a : Area) (n : ℕ) (new : E
   many = le-div-iff-mul-le {k = w} (omega arith) .1 (omega (arith, h2 .few))
 
   -- without a split
-  whole-entered : length es + a .cost ≤ capacity t → Entered v t (unsplit t new n a) (liveAt (a .first) new)
+  whole-entered : length es + a .cost ≤ capacity t
+      → Entered v t (unsplit t new n a) (liveAt (a .first) new) (newAfter (a .seg) (a .before) (a .cost))
   unfolding unsplit capacity
   whole-entered fits =
       let r =
       rewritten v t st s low high out
       (record { fine = ad .fine; wide = ad .wide; room = omega (arith, ad .long, many) })
       (ad .sum) in
-      finish (withSegment t s (render (headerOf t s) out)) (r .before) (r .after) (r .living-was) (r .living-is) (r .sound)
+      let D = withSegment t s (render (headerOf t s) out) in
+      let l = area-within in
+      finish D (r .before) (r .after) (r .living-was) (r .living-is) (r .sound) (newAfter (a .seg) (a .before) (a .cost))
+      (new-stands D s (low, rw (r .highest) high) (a .before) es (omega arith) (r .own) (rw (r .first) area-first))
 
   -- with a split
   module _ (spare : highest t < segments t) where
@@ -250,6 +280,9 @@ module _ (v : ℕ) (t : List ℕ) (st : Sound v t) (a : Area) (n : ℕ) (new : E
     next-entries : entriesIn w D next ≡ upper
     next-entries = ap upto (slots-at next g2 at-next) ∙ wr2 .entries
 
+    top : highest D ≡ next
+    top = getD-set-same t2 2 next 0 (omega (arith, long2, inside, low))
+
     stop : Stop (shapeOf t) t s b
     stop = stop-at v t st s low high
 
@@ -261,7 +294,7 @@ module _ (v : ℕ) (t : List ℕ) (st : Sound v t) (a : Area) (n : ℕ) (new : E
           size = length-set t2 2 next ∙ long2;
           more = omega arith;
           fits = omega arith;
-          top = getD-set-same t2 2 next 0 (omega (arith, long2, inside, low));
+          top = top;
           many = omega arith;
           others = like;
           way = (
@@ -319,16 +352,45 @@ module _ (v : ℕ) (t : List ℕ) (st : Sound v t) (a : Area) (n : ℕ) (new : E
     an : Anew v t D s (s ∷ next ∷ [])
     an = anew v t D s next (s ∷ next ∷ []) st change
 
-    split-entered : Entered v t (split t new n a) (liveAt (a .first) new)
+    -- the new entry stands in whichever half has its area
+    split-stands : StandsAt D (splitAt t a .segment) (splitAt t a .slot) (a .first) new
+    unfolding splitAt entries
+    split-stands = go (ltb (a .before) h) refl
+      where
+        go : (z : Bool) → ltb (a .before) h ≡ z
+            → let p = cond z (newAfter s (a .before) (a .cost)) (newAfter next (a .before - h) (a .cost)) in
+            StandsAt D (p .segment) (p .slot) (a .first) new
+        go true z =
+            let l = ltb-true (a .before) h z in
+            let e = length-take-le h es (pa .inside) in
+            let f : firstOf (segment D s) ≡ b = own-word 4 (omega arith) (λ e. omega arith) (λ e. omega arith) in
+            new-stands D s (low, rw top (omega (arith, high))) (a .before) (take h es) (omega arith) (rw (an .extra, own-entries, z))
+            (rw (f, take-take (a .before) h es (omega arith)) area-first)
+        go false z =
+            let l = ltb-false (a .before) h z in
+            let i = area-within in
+            let e = length-drop h es in
+            let j : h + (a .before - h) ≡ a .before = omega arith in
+            let f : firstOf (segment D next) ≡ b + total (take h es) =
+            next-word 4 (omega arith) (λ e. omega arith) ∙ ap (λ (m : ℕ). m + total (take h es)) (header-word t s 4 (omega arith)) in
+            let m = total-append (take h es) (take (a .before - h) (drop h es)) in
+            let o : take h es ++ take (a .before - h) (drop h es) ≡ take (a .before) es =
+            sym (take-add h (a .before - h) es) ∙ ap (λ (m : ℕ). take m es) j in
+            let r = ap total o in
+            let g = area-first in
+            new-stands D next (omega arith, rw top (omega arith)) (a .before - h) (drop h es) (omega arith) (rw (an .extra, next-entries, z))
+            (rw f (omega arith))
+
+    split-entered : Entered v t (split t new n a) (liveAt (a .first) new) (splitAt t a)
     unfolding split
-    split-entered = finish D (an .before) (an .after) (an .living-was) (an .living-is ∙ (rw all-of)) (an .sound)
+    split-entered = finish D (an .before) (an .after) (an .living-was) (an .living-is ∙ (rw all-of)) (an .sound) (splitAt t a) split-stands
       where
         all-of : spread w D (s ∷ next ∷ []) ≡ out
         all-of = rw (own-entries, next-entries, append-nil upper) (hv .joined)
 
   -- in either case
-  pub is-entered : Entered v t (entered t new n a) (liveAt (a .first) new)
-  unfolding entered hasRoom
+  pub is-entered : Entered v t (entered t new n a) (liveAt (a .first) new) (enteredAt t a)
+  unfolding entered enteredAt hasRoom
   is-entered = go (leb (length es + a .cost) (capacity t)) refl
     where
       room : hasRoom t es (a .cost) ≡ true
@@ -338,6 +400,7 @@ module _ (v : ℕ) (t : List ℕ) (st : Sound v t) (a : Area) (n : ℕ) (new : E
 
       go : (z : Bool) → leb (length es + a .cost) (capacity t) ≡ z
           → Entered v t (cond z (unsplit t new n a) (split t new n a)) (liveAt (a .first) new)
+          (cond z (newAfter (a .seg) (a .before) (a .cost)) (splitAt t a))
       go true e = whole-entered (leb-true (length es + a .cost) (capacity t) e)
       go false e =
           split-entered (ltb-true (highest t) (segments t) (left e))

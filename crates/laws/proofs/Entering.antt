@@ -15,7 +15,7 @@ use Rattle.meaning.specs.Keys.{spared}
 use Rattle.meaning.specs.Sound.{fault}
 use Rattle.meaning.specs.Answers.{Outcome, refuse, success, unless, isNone, openOn}
 use Rattle.meaning.specs.Requests.{legal, goodChannel, wordOf, overProtected, entryOf}
-use Rattle.meaning.specs.Enter.{Area, sizeOf, goodSize, tidied, areas, eligibles, wanted, atLeast, longEnough, firstFit, entered, placed}
+use Rattle.meaning.specs.Enter.{Area, sizeOf, goodSize, tidied, areas, eligibles, wanted, atLeast, longEnough, firstFit, entered, enteredAt, placed}
 use Rattle.meaning.specs.Enter.{enter}
 use Rattle.walks.proofs.Fits.{wanted-fits}
 use Rattle.laws.specs.Refusals.{beforeRoom, Among}
@@ -45,7 +45,9 @@ pub data Entering (d : List ℕ) (name : Name) (asked : ℤ) (job channel date :
       → o ≡ refuse 12 d → Entering d name asked job channel date o
   taken : (p : Area) → legal name ≡ true → openOn d (wordOf job channel) ≡ none
       → longEnough (atLeast (sizeOf asked)) (eligiblesOf d) ≡ true → firstFit (lengthOf d asked) (eligiblesOf d) ≡ some p
-      → o ≡ success (p .first) (lengthOf d asked) date (entered (tidiedOf d) (entryFor d name asked job channel date) (lengthOf d asked) p)
+      → o
+      ≡ success (p .first) (lengthOf d asked) date (enteredAt (tidiedOf d) p)
+      (entered (tidiedOf d) (entryFor d name asked job channel date) (lengthOf d asked) p)
       → Entering d name asked job channel date o
 
 module _ (d : List ℕ) (name : Name) (asked : ℤ) (job channel date : ℕ) where

@@ -7,8 +7,10 @@ use mathlib.Core.Path.{_≡_, refl}
 use mathlib.Core.Logic.{_⊎_, ⊎-elim}
 use mathlib.Core.Bool.{Bool, true}
 use mathlib.Core.List.{List, []}
+use lib.ListN.{set}
 use Rattle.meaning.specs.declared.Kind.the-variants.{Empty}
-use Rattle.meaning.specs.Words.{slotWords, Entry, kind, blocks, dateOf, Row, rows}
+use Rattle.meaning.specs.Kinds.{emptyStatus}
+use Rattle.meaning.specs.Words.{slotWords, Entry, statusWord, kind, blocks, dateOf, Row, rows}
 use Rattle.meaning.specs.Answers.{Write, write}
 use Rattle.meaning.specs.declared.Key.{Key}
 use Rattle.meaning.specs.Keys.{holds, once}
@@ -45,9 +47,11 @@ One k m = m ≡ k
 abbrev pub Two : Key → Key → Key → Type 0
 Two k l m = (m ≡ k) ⊎ (m ≡ l)
 
-pub record Gone (d : List ℕ) (k : Key) (ws : List Write) : Type 0 where
+-- the entry of the row r, of the key k, becomes empty
+pub record Gone (d : List ℕ) (r : Row) (k : Key) (ws : List Write) : Type 0 where
   pub good : Good d (One k) ws
   pub gone : All (After d (write d ws) k nothing) (rows d)
+  pub entry : entryAt (write d ws) (slotWords d) (r .at) ≡ set (r .entry) statusWord emptyStatus
 
 -- the entry of the row r, of the key k, becomes one of the key l, of n blocks
 pub record Made (d : List ℕ) (r : Row) (k l : Key) (n : ℕ) (ws : List Write) : Type 0 where

@@ -20,20 +20,21 @@ use Rattle.meaning.specs.Keys.{holds, fileBad, spared, once}
 use Rattle.meaning.specs.Sound.{fault}
 use Rattle.meaning.specs.Answers.{isProtected, find, fileOf, Write, write}
 use Rattle.meaning.specs.Requests.{legal, lookup, wordOf, overProtected, closing}
-use Rattle.laws.specs.Kept.{Present, AllStay}
+use Rattle.laws.specs.Kept.{Present, AllStay, SameFile}
 use Rattle.laws.specs.Order.{every}
 use Rattle.rules.proofs.Keys.{once-file, spared-is, old-file, same-key, file-holds, file≢open, count}
 use Rattle.rules.proofs.Soundness.{Sound, sound}
 use Rattle.rules.proofs.Rows.{entry-of, few-rows}
 use Rattle.laws.proofs.Keeps.{first-of, find-first, every-other}
 use Rattle.laws.proofs.Good.{Good, One, Two}
+use Rattle.laws.proofs.Living.{face}
 use Rattle.laws.proofs.Stays.{stays}
 use Rattle.laws.proofs.Plans.{Plan, deletePlan, restatePlan, abandonPlan, renamePlan, closePlan}
 use Rattle.laws.proofs.Deeds.{file-key, file-made, stated-already, openAt, AbandonNames}
 use Rattle.laws.proofs.Deeds.{Refused, DeleteDone, delete-view, RestateDone, restate-view, RenameDone, rename-view, CloseDone, close-view}
 use Rattle.laws.proofs.Deeds.{delete-good, restate-good, abandon-good, rename-good}
 use Rattle.laws.proofs.Served.{protected-permanent, plain-permanent}
-use Rattle.laws.proofs.Lookups.{seen, lookup-seen}
+use Rattle.laws.proofs.Lookups.{lookup-seen, same-seen}
 
 -- a protected entry is a file of its name
 protected-status : (e : Entry) → protected e ≡ true → getD e statusWord 0 ≡ protectedStatus
@@ -221,20 +222,13 @@ module _ (v : ℕ) (d : List ℕ) (h : fault v d ≡ 0) (first : ℕ) (e : Entry
   by-unprotect-other name ne =
       others (One (File name)) _ (restate-good v d s name permanentStatus plain-permanent) (λ q. ne (let n : nameOf e ≡ name = cc in sym n))
 
--- lookup answers by first block and entry, so a file that is still there is answered as before
-seen-same : (b : Bool) (r r′ : Row) → r .first ≡ r′ .first → r .entry ≡ r′ .entry → seen b (some r) ≡ seen b (some r′)
-seen-same false r r′ f g = refl
-seen-same true r r′ f g = rw (f, g)
-
+-- lookup answers by what it finds, so a file that is still there is answered as before, wherever it is
 pub same-answer : (v : ℕ) (d d′ : List ℕ) → fault v d ≡ 0 → fault v d′ ≡ 0 → (first : ℕ) (e : Entry) → protected e ≡ true
     → once (File (nameOf e)) ≡ true → Present (rows d) first e → Present (rows d′) first e
-    → lookup v d′ (nameOf e) .answer ≡ lookup v d (nameOf e) .answer
+    → SameFile (lookup v d′ (nameOf e) .answer) (lookup v d (nameOf e) .answer)
 same-answer v d d′ h h′ first e safe o p p′ =
     let n = nameOf e in
     let x = found-there v d h first e p safe o in
     let y = found-there v d′ h′ first e p′ safe o in
-    lookup-seen v d′ h′ n
-    ∙ ap (seen (legal n)) (y .found)
-    ∙ seen-same (legal n) (y .row) (x .row) (y .from ∙ sym (x .from)) (y .entry ∙ sym (x .entry))
-    ∙ sym (ap (seen (legal n)) (x .found))
-    ∙ sym (lookup-seen v d h n)
+    let f : face (y .row) ≡ face (x .row) = rw (y .from, y .entry, x .from, x .entry) in
+    rw (lookup-seen v d′ h′ n, lookup-seen v d h n, x .found, y .found) (same-seen (legal n) (some (y .row)) (some (x .row)) (ap some f))

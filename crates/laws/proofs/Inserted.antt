@@ -1,25 +1,28 @@
 -- The tentative entry inserted before an area, on lists of entries. Fine entries stay fine, since the area stands after the new entry
 -- and, after a tentative one, an empty entry of length 0 stands before it; their blocks stay as many; and the new one, where the area
--- began, is the one more among the living. Where the entries are split in two, the halves joined are the same entries.
+-- began, is the one more among the living, in the last of the slots that it costs.
 use Prim.Native.Nat.{ℕ, suc, _+_, _-_, _≤_}
-use mathlib.Core.Path.{_≡_, refl, sym, _∙_, subst}
+use mathlib.Core.Path.{_≡_, refl, sym, ap, _∙_, subst}
 use mathlib.Core.Logic.{inr}
 use mathlib.Core.Bool.{Bool, true, false, cond}
 use mathlib.Core.List.{List, [], _∷_, _++_, append-assoc}
 use native.Mathlib.Nat.{add-zero}
 use native.Mathlib.Omega.{arith}
-use lib.ListN.{length, drop, set, length-set, length-append, length-replicate}
-use lib.Seq.{take-append-seam, getD-append-seam}
+use lib.ListN.{length, take, drop, set, length-set, length-append, length-replicate}
+use lib.Seq.{take-append-seam, getD-append-seam, length-take-le}
 use lib.Dec.{eqb}
 use Rattle.meaning.specs.declared.Kind.the-variants.{Tentative, Empty}
 use Rattle.meaning.specs.Kinds.{kindOf}
-use Rattle.meaning.specs.Words.{Entry, lengthWord, kind, blocks, total}
+use Rattle.meaning.specs.Words.{segment, firstOf, Entry, lengthWord, kind, blocks, entries, total}
 use Rattle.meaning.specs.Requests.{entryOf, emptyEntry}
 use Rattle.meaning.specs.Enter.{costAfter, inserted}
 use Rattle.walks.specs.Scan.{longNamed}
 use Rattle.walks.proofs.Alls.{all-append, all-left, all-right}
 use Rattle.walks.proofs.Filled.{total-append}
+use Rattle.walks.proofs.Linked.{Used}
 use Rattle.laws.proofs.Entries.{Grown}
+use Rattle.rules.specs.Standing.{StandsAt}
+use Rattle.rules.proofs.Standing.{stands-after}
 use Rattle.rules.proofs.Fine.{free, used, Fine, flag, fine-after, fine-with}
 use Rattle.walks.proofs.Flat.{OfWords, Wide}
 use Rattle.laws.proofs.Living.{Live, living, living-area, living-other, living-append, Gained}
@@ -162,3 +165,23 @@ module _ (w n : ℕ) (enough : 7 ≤ w) (new : Entry) (nw : New w n new) where
       let g : Fine false (xs ++ x ∷ ys) = subst (Fine false) e f in
       let h : Wide w (xs ++ x ∷ ys) = subst (Wide w) e a in
       rw (e, i, c) (added xs x ys kx (all-right (OfWords w) xs (x ∷ ys) h .0) le g h)
+
+-- where it stands among the entries of a segment: after k of them, in the last of the slots that it costs
+gap-long : (w : ℕ) (p : Bool) (xs : List Entry) → length (xs ++ cond (eqb (costAfter p) 2) (emptyEntry w 0 ∷ []) []) + 1 ≡ length xs + costAfter p
+unfolding costAfter
+gap-long w true xs = let l = length-append xs (emptyEntry w 0 ∷ []) in omega arith
+gap-long w false xs = let l = length-append xs [] in omega arith
+
+gap-total : (w : ℕ) (p : Bool) (xs : List Entry) → total (xs ++ cond (eqb (costAfter p) 2) (emptyEntry w 0 ∷ []) []) ≡ total xs
+unfolding costAfter total entryOf
+gap-total w true xs = let t = total-append xs (emptyEntry w 0 ∷ []) in omega arith
+gap-total w false xs = let t = total-append xs [] in omega arith
+
+pub inserted-stands : (D : List ℕ) (s : ℕ) → Used D s → (w : ℕ) (new : Entry) (n cost : ℕ) (p : Bool) (k : ℕ) (es : List Entry)
+    → cost ≡ costAfter p → k ≤ length es → entries D s ≡ inserted w new n cost k es
+    → (b : ℕ) → firstOf (segment D s) + total (take k es) ≡ b → StandsAt D s (k + cost) b new
+unfolding inserted
+inserted-stands D s u w new n cost p k es c l q b f =
+    let xs : List Entry = take k es ++ cond (eqb (costAfter p) 2) (emptyEntry w 0 ∷ []) [] in
+    let i : length xs + 1 ≡ k + costAfter p = gap-long w p (take k es) ∙ ap (λ (j : ℕ). j + costAfter p) (length-take-le k es l) in
+    rw (← f, c, ← i, ← gap-total w p (take k es)) (stands-after D s u xs new _ (rw c at q))

@@ -28,7 +28,7 @@ use Rattle.laws.proofs.EnterKept.{enter-kept, enter-stays}
 use Rattle.laws.proofs.Guarded.{protected-file, of-name, by-delete, by-rename, by-abandon, by-close, by-protect-again}
 use Rattle.laws.proofs.Guarded.{by-unprotect-other, same-answer}
 
-lookup-words : (v : ℕ) (d : List ℕ) → fault v d ≡ 0 → (n : Name) → lookup v d n .words ≡ d
+pub lookup-words : (v : ℕ) (d : List ℕ) → fault v d ≡ 0 → (n : Name) → lookup v d n .words ≡ d
 unfolding lookup successWith success refuse
 lookup-words v d h n = rw h (go (legal n) (fileOf d n))
   where

@@ -1,6 +1,6 @@
 -- A fresh start that succeeds leaves a sound directory without a file: one segment in use, with one empty entry that has all data
 -- blocks, and the marker after it. The words that the rules look at are read off once; the rules follow from them for any list that has
--- these words.
+-- these words, and so does where its entry is.
 use Prim.Native.Nat.{ℕ, zero, suc, _+_, _*_, _-_, _≤_, _<_}
 use native.Mathlib.Nat.{le-div-iff-mul-le}
 use native.Mathlib.Omega.{arith}
@@ -14,10 +14,10 @@ use lib.Dec.{leb}
 use borrow.Author.Tests.{leb-true, eq-eqb}
 use Rattle.meaning.specs.declared.Kind.the-variants.{Empty, End}
 use Rattle.meaning.specs.Kinds.{emptyStatus, endStatus, kindOf}
-use Rattle.meaning.specs.Words.{segments, firstData, segment, highest, slotWords, slotCount, Entry, kind, upto, entries, total}
+use Rattle.meaning.specs.Words.{segments, firstData, segment, firstOf, highest, slotWords, slotCount, Entry, kind, upto, entries, total}
 use Rattle.meaning.specs.Words.{chainFrom, chain, rowsIn, segmentRows, rowsOf, rows, entriesOf, allEntries}
 use Rattle.meaning.specs.Sound.{bad1, filled}
-use Rattle.meaning.specs.Answers.{refuse, success, find, fileOf}
+use Rattle.meaning.specs.Answers.{Outcome, granted, refuse, success, find, fileOf}
 use Rattle.meaning.specs.Requests.{entryOf, emptyEntry, flat, render, freshWords, fresh}
 use Rattle.walks.specs.Links.{linked}
 use Rattle.walks.specs.Scan.{scanBad}
@@ -30,7 +30,9 @@ use Rattle.walks.specs.Lists.{All}
 use Rattle.rules.proofs.Rule5.{rule1-holds, rule1-tested, rule2-tested}
 use Rattle.rules.proofs.Keys.{empty-holds, count}
 use Rattle.rules.proofs.Grid.{entryAt, word-at, grid, slots-grid}
+use Rattle.rules.proofs.Standing.{stands-after}
 use Rattle.laws.specs.Kept.{KeptByFresh}
+use Rattle.laws.specs.Points.{Points}
 use Rattle.laws.proofs.Lookups.{lookup-seen}
 use Rattle.rules.proofs.Soundness.{Readable, Sound, faultless}
 use Rattle.walks.proofs.Slots.{slotsOf}
@@ -46,6 +48,7 @@ pub record Started (v N E : ℕ) (D : List ℕ) : Type 0 where
   pub first : getD D 4 0 ≡ 6 + 2 * N
   pub status : getD D 5 0 ≡ emptyStatus
   pub length : getD D 9 0 ≡ v - (6 + 2 * N)
+  pub date : getD D 11 0 ≡ 0
   pub marker : getD D (5 + (7 + E)) 0 ≡ endStatus
 
 -- read off
@@ -89,6 +92,7 @@ module _ (v N E : ℕ) (least : 1 ≤ N) (most : E ≤ 16) where
         first = refl;
         status = refl;
         length = refl;
+        date = refl;
         marker =
             List·getD-append (render header (entry ∷ [])) (replicate (512 * (N - 1)) 0) 0 (5 + (7 + E))
             (let l = render-length header (entry ∷ []) in omega arith)
@@ -227,17 +231,53 @@ module _ (v N E : ℕ) (D : List ℕ) (some : 1 ≤ N) (few : N ≤ 31) (most : 
         illegal = λ n l. rw (lookup-seen v D f n, l);
       }
 
-pub kept-by-fresh : (v : ℕ) (d : List ℕ) (extra : ℕ) → fresh v d extra .answer .number ≡ 0 → KeptByFresh v (fresh v d extra .words)
-unfolding fresh freshWords refuse success
-kept-by-fresh v d extra = go (bad1 v d) refl (leb extra 16) refl
-  where
-    go : (x : Bool) → bad1 v d ≡ x → (y : Bool) → leb extra 16 ≡ y → fresh v d extra .answer .number ≡ 0
-        → KeptByFresh v (fresh v d extra .words)
-    go true i y j h = absurd (let z : 1 ≡ 0 = rw i at h in omega arith)
-    go false i false j h = absurd (let z : 2 ≡ 0 = rw (i, j) at h in omega arith)
-    go false i true j h =
-        let r = rule1-holds v d i in
-        let l = leb-true extra 16 j in
-        rw (i, j)
-        (started-kept v (segments d) extra _ (r .some) (r .few) l (r .room) (r .wide)
-        (is-started v (segments d) extra (r .some) l))
+  -- its one entry is the area, in slot 1 of segment 1
+  started-points : Points D (granted (6 + 2 * N) (v - (6 + 2 * N)) 0 (record { segment = 1; slot = 1 })) (λ e. kind e ≡ Empty)
+  unfolding total
+  started-points =
+      let u : 1 ≤ highest D = rw (s .highest) (omega arith) in
+      let b : firstOf (segment D 1) + total [] ≡ 6 + 2 * N = rw (head 4 (omega arith), s .first) (omega arith) in
+      record {
+        entry = entryAt D (7 + E) 5;
+        stands = rw b at (stands-after D 1 (omega arith, u) [] (entryAt D (7 + E) 5) [] entries-are);
+        length = word-at D (7 + E) 5 4 (omega arith) ∙ s .length;
+        date = word-at D (7 + E) 5 6 (omega arith) ∙ s .date;
+        concerned = empty-first;
+      }
+
+-- what a fresh start that succeeds has tested, and its words
+record Begun (v : ℕ) (d : List ℕ) (extra : ℕ) : Type 0 where
+  rule : Rule1 v d
+  most : extra ≤ 16
+  started : Started v (segments d) extra (freshWords v d extra)
+
+module _ (v : ℕ) (d : List ℕ) (extra : ℕ) where
+  of-fresh : (Q : Outcome → Type 0)
+      → (Begun v d extra → Q (success (firstData d) (v - firstData d) 0 (record { segment = 1; slot = 1 }) (freshWords v d extra)))
+      → fresh v d extra .answer .number ≡ 0 → Q (fresh v d extra)
+  unfolding fresh freshWords refuse
+  of-fresh Q f = go (bad1 v d) refl (leb extra 16) refl
+    where
+      go : (x : Bool) → bad1 v d ≡ x → (y : Bool) → leb extra 16 ≡ y → fresh v d extra .answer .number ≡ 0 → Q (fresh v d extra)
+      go true i y j h = absurd (let z : 1 ≡ 0 = rw i at h in omega arith)
+      go false i false j h = absurd (let z : 2 ≡ 0 = rw (i, j) at h in omega arith)
+      go false i true j h =
+          let r = rule1-holds v d i in
+          let l = leb-true extra 16 j in
+          rw (i, j) (f (record { rule = r; most = l; started = is-started v (segments d) extra (r .some) l }))
+
+  pub kept-by-fresh : fresh v d extra .answer .number ≡ 0 → KeptByFresh v (fresh v d extra .words)
+  unfolding success
+  kept-by-fresh =
+      of-fresh (λ (o : Outcome). KeptByFresh v (o .words))
+      (λ b.
+      let r = b .rule in
+      started-kept v (segments d) extra _ (r .some) (r .few) (b .most) (r .room) (r .wide) (b .started))
+
+  pub points-by-fresh : fresh v d extra .answer .number ≡ 0 → Points (fresh v d extra .words) (fresh v d extra .answer) (λ e. kind e ≡ Empty)
+  unfolding success
+  points-by-fresh =
+      of-fresh (λ (o : Outcome). Points (o .words) (o .answer) (λ e. kind e ≡ Empty))
+      (λ b.
+      let r = b .rule in
+      started-points v (segments d) extra _ (r .some) (r .few) (b .most) (r .room) (r .wide) (b .started))

@@ -12,13 +12,13 @@ use lib.ListN.{getD}
 use Rattle.meaning.specs.declared.Name.{Name}
 use Rattle.meaning.specs.declared.Kind.the-variants.{Permanent}
 use Rattle.meaning.specs.Kinds.{kindOf}
-use Rattle.meaning.specs.Words.{statusWord, nameOf, Row, rows}
+use Rattle.meaning.specs.Words.{statusWord, nameOf, Row}
 use Rattle.meaning.specs.Keys.{fileBad}
 use Rattle.meaning.specs.Sound.{fault}
 use Rattle.meaning.specs.Answers.{fileOf, openOn, write}
 use Rattle.meaning.specs.Requests.{legal, lookup, restating, restate, rename, close, closing, finalLength, goodChannel, wordOf}
 use Rattle.meaning.specs.declared.Key.the-variants.{File, Open}
-use Rattle.laws.specs.Kept.{KeptByDelete, KeptByAbandon, KeptByRename, withStatus, KeptByStatus, FilePresent, KeptByClose}
+use Rattle.laws.specs.Kept.{KeptByDelete, KeptByAbandon, KeptByRename, withStatus, KeptByStatus, KeptByClose}
 use Rattle.rules.proofs.Keys.{once-other, same-key, file≢open}
 use Rattle.rules.proofs.Soundness.{sound}
 use Rattle.laws.proofs.Good.{Good, One, Two, Made}
@@ -26,11 +26,10 @@ use Rattle.laws.proofs.Plans.{Plan, deletePlan, restatePlan, renamePlan
 use Rattle.laws.proofs.Deeds.{file-key, open-key, file-gone, stated-already, file-made, restate-stated, rename-made, openAt, CloseNames}
 use Rattle.laws.proofs.Deeds.{AbandonNames, Refused, delete-view, RestateDone, restate-view, RenameDone, rename-view, CloseDone, close-view}
 use Rattle.laws.proofs.Deeds.{delete-good, restate-good, abandon-good, rename-good, close-good}
-use Rattle.laws.proofs.Stays.{made-present}
 use Rattle.laws.proofs.Lookups.{good-sound, others-seen, gone-seen, made-seen, lookup-seen, stated-found, stated-seen}
 
 -- a plan of number 0 is no refusal
-succeeds : {A : Type 0} (p : Plan) → p .answer .number ≡ 0 → Refused p ⊎ A → A
+pub succeeds : {A : Type 0} (p : Plan) → p .answer .number ≡ 0 → Refused p ⊎ A → A
 succeeds p n (inl r) = absurd (let z : p .answer .number ≡ suc (r .less) = rw (r .plan) in omega arith)
 succeeds p n (inr a) = a
 
@@ -136,10 +135,6 @@ module _ (v : ℕ) (d : List ℕ) (h : fault v d ≡ 0) where
   kept-by-close job ch final =
       record {
         sound = rw (close-is v d h job ch final) (good-sound v d h _ _ good);
-        present =
-            λ r e z.
-            let x = done z in
-            subst PresentOf (same-row (x .row) r (x .old) e) (present-of x);
         made =
             λ r e z l b.
             let x = done z in
@@ -157,18 +152,9 @@ module _ (v : ℕ) (d : List ℕ) (h : fault v d ≡ 0) where
           succeeds (closePlan d job ch (finalLength final)) (rw (close-is v d h job ch final) at z)
           (close-view d job ch (finalLength final))
 
-      PresentOf : Row → Type 0
-      PresentOf r = FilePresent (rows (close v d job ch final .words)) (nameOf (r .entry)) (close v d job ch final .answer)
-
       file-of : (x : CloseDone d job ch (finalLength final))
           → Made d (x .row) (Open (wordOf job ch)) (File (nameOf (x .row .entry))) (x .n) (closing d (x .row) (x .n))
       file-of x = file-made v d (sound v d h) (wordOf job ch) (x .row) (x .old) (x .n) (x .least)
-
-      present-of : (x : CloseDone d job ch (finalLength final)) → PresentOf (x .row)
-      present-of x =
-          rw (close-is v d h job ch final, x .plan)
-          (made-present v d h (x .row) (Open (wordOf job ch)) (nameOf (x .row .entry)) (x .n) _ (file-of x)
-          (sym (open-key d (wordOf job ch)) ∙ x .old))
 
       MadeOf : Row → Type 0
       MadeOf r =

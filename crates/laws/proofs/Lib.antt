@@ -35,3 +35,4 @@ pub mod Runs
 pub mod RunPlaces
 pub mod Room
 pub mod EnterLaws
+pub mod Pointed

@@ -5,7 +5,7 @@ use Prim.Native.Nat.{ℕ}
 use mathlib.Core.Path.{_≡_, refl, sym, ap, _∙_}
 use mathlib.Core.Bool.{Bool, true, false}
 use mathlib.Core.List.{List}
-use mathlib.Core.Option.{Option, none, some, Option·map}
+use mathlib.Core.Option.{Option, none, some, Option·map, Option·none-ne-some}
 use native.Mathlib.Omega.{arith}
 use lib.ListN.{set}
 use lib.Seq.{getD-set-other}
@@ -13,14 +13,15 @@ use Rattle.meaning.specs.declared.Name.{Name}
 use Rattle.meaning.specs.declared.Answer.{Answer}
 use Rattle.meaning.specs.Words.{statusWord, lengthWord, dateWord, blocks, dateOf, Row, rows}
 use Rattle.meaning.specs.Sound.{fault}
-use Rattle.meaning.specs.Answers.{refusal, granted, refuse, success, unless, onRow, find, fileOf, Write, write}
+use Rattle.meaning.specs.Answers.{refusal, granted, positionOf, refuse, success, unless, onRow, find, fileOf, Write, write}
 use Rattle.meaning.specs.Requests.{legal, successWith, lookup}
 use Rattle.meaning.specs.declared.Key.{Key}
 use Rattle.meaning.specs.declared.Key.the-variants.{File}
 use Rattle.meaning.specs.Keys.{holds, once}
-use Rattle.laws.specs.Kept.{withStatus}
+use Rattle.laws.specs.Kept.{withStatus, SameFile}
 use Rattle.walks.specs.Lists.{All}
 use Rattle.rules.proofs.Soundness.{sound, faultless}
+use Rattle.laws.proofs.Living.{Live, face}
 use Rattle.laws.proofs.Keeps.{After, nothing, reread, stays-sound, found-other, found-from, found-nowhere}
 use Rattle.laws.proofs.Good.{Good, Made, Stated}
 use Rattle.laws.proofs.Deeds.{file-key}
@@ -28,7 +29,7 @@ use Rattle.laws.proofs.Deeds.{file-key}
 abbrev pub seen : Bool → Option Row → Answer
 seen false o = refusal 7
 seen true none = refusal 13
-seen true (some r) = granted (r .first) (blocks (r .entry)) (dateOf (r .entry))
+seen true (some r) = granted (r .first) (blocks (r .entry)) (dateOf (r .entry)) (positionOf r)
 
 pub lookup-seen : (v : ℕ) (d : List ℕ) → fault v d ≡ 0 → (n : Name) → lookup v d n .answer ≡ seen (legal n) (fileOf d n)
 unfolding lookup successWith success refuse
@@ -38,6 +39,21 @@ lookup-seen v d h n = rw h (go (legal n) (fileOf d n))
     go false o = refl
     go true none = refl
     go true (some r) = refl
+
+-- where the same first block and the same entry are found, wherever they are, the same file is told
+pub same-seen : (b : Bool) (o p : Option Row) → Option·map face o ≡ Option·map face p → SameFile (seen b o) (seen b p)
+same-seen false o p h = record { number = refl; first = refl; length = refl; date = refl }
+same-seen true none none h = record { number = refl; first = refl; length = refl; date = refl }
+same-seen true none (some r) h = absurd (Option·none-ne-some (face r) h)
+same-seen true (some r) none h = absurd (Option·none-ne-some (face r) (sym h))
+same-seen true (some r) (some s) h =
+    let f : face r ≡ face s = cc in
+    record {
+      number = refl;
+      first = ap (λ (l : Live). l .first) f;
+      length = ap (λ (l : Live). blocks (l .entry)) f;
+      date = ap (λ (l : Live). dateOf (l .entry)) f;
+    }
 
 module _ (v : ℕ) (d : List ℕ) (h : fault v d ≡ 0) (C : Key → Type 0) (ws : List Write) (g : Good d C ws) where
   abbrev d′ : List ℕ
@@ -69,7 +85,7 @@ module _ (v : ℕ) (d : List ℕ) (h : fault v d ≡ 0) (C : Key → Type 0) (ws
 
 pub made-seen : (v : ℕ) (d : List ℕ) → fault v d ≡ 0 → (r : Row) (k : Key) (name : Name) (n : ℕ) (ws : List Write)
     → Made d r k (File name) n ws → find (holds k) (rows d) ≡ some r → once (File name) ≡ true → legal name ≡ true
-    → lookup v (write d ws) name .answer ≡ granted (r .first) n (dateOf (r .entry))
+    → lookup v (write d ws) name .answer ≡ granted (r .first) n (dateOf (r .entry)) (positionOf r)
 made-seen v d h r k name n ws m e o l =
     rw (
       lookup-seen v (write d ws) (good-sound v d h _ ws (m .good)) name,

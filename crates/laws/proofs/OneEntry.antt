@@ -112,7 +112,7 @@ module _ (d : List ℕ) (st : All (Stand d) (rows d)) where
 
   -- delete and abandon
   pub clearing : (r : Row) → Stand d r → (k : Key) → once k ≡ true → holds k (r .entry) ≡ true → All (Only (holds k) (r .at)) (rows d)
-      → Gone d k (emptying r)
+      → Gone d r k (emptying r)
   unfolding emptying
   clearing r s k one h only =
       let g = key-gone r s k h only ws to within e refl (empty-holds k e (x .kind)) in
@@ -123,6 +123,7 @@ module _ (d : List ℕ) (st : All (Stand d) (rows d)) where
             (x .blocks)
             (gone-source d (write d ws) k g);
         gone = g;
+        entry = entry-after r s k h only ws to within e refl ∙ ap (λ (z : Entry). set z statusWord emptyStatus) (sym (s .is));
       }
     where
       ws : List Write

@@ -12,7 +12,7 @@ use Rattle.meaning.specs.declared.Answer.{Answer}
 use Rattle.meaning.specs.Words.{nameOf, protected, blocks, dateOf, Row}
 use Rattle.meaning.specs.Keys.{spared}
 use Rattle.meaning.specs.Sound.{fault}
-use Rattle.meaning.specs.Answers.{Outcome, refusal, granted, refuse, success, unless, onRow, isNone, fileOf, openOn, Write, write}
+use Rattle.meaning.specs.Answers.{Outcome, refusal, granted, positionOf, refuse, success, unless, onRow, isNone, fileOf, openOn, Write, write}
 use Rattle.meaning.specs.Requests.{legal, successWith, emptying, delete, restating, restate, goodChannel, wordOf, abandon, renaming, rename}
 use Rattle.meaning.specs.Requests.{overProtected, closing, finalLength, closed, close}
 
@@ -27,7 +27,7 @@ abbrev pub refused : ℕ → Plan
 refused n = record { answer = refusal n; writes = [] }
 
 abbrev pub done : Row → ℕ → List Write → Plan
-done r n ws = record { answer = granted (r .first) n (dateOf (r .entry)); writes = ws }
+done r n ws = record { answer = granted (r .first) n (dateOf (r .entry)) (positionOf r); writes = ws }
 
 -- refusal n unless a test holds, or unless an entry is found
 abbrev pub testing : ℕ → Bool → Plan → Plan

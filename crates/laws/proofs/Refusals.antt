@@ -16,6 +16,7 @@ use Rattle.meaning.specs.declared.Op.{Op}
 use Rattle.meaning.specs.declared.Op.the-variants.{Lookup, Enter, Close, Abandon, Delete, Rename, Protect, Unprotect}
 use Rattle.meaning.specs.declared.Request.{Request}
 use Rattle.meaning.specs.declared.Name.{Name}
+use Rattle.meaning.specs.declared.Position.{Position}
 use Rattle.meaning.specs.Kinds.{tentativeStatus}
 use Rattle.meaning.specs.Words.{Row, Entry, nameOf, protected, blocks, slotWords, chain}
 use Rattle.meaning.specs.Keys.{spared}
@@ -53,9 +54,9 @@ module _ (ns : List ℕ) (d : List ℕ) where
   refuse-settled n h =
       record { number = inr h; refused = λ x. record { answer = refl; words = refl } }
 
-  success-settled : (first length date : ℕ) (after : List ℕ) → Settled ns d (success first length date after)
+  success-settled : (first length date : ℕ) (p : Position) (after : List ℕ) → Settled ns d (success first length date p after)
   unfolding success
-  success-settled first length date after = record { number = inl refl; refused = λ x. absurd (x refl) }
+  success-settled first length date p after = record { number = inl refl; refused = λ x. absurd (x refl) }
 
   unless-settled : (n : ℕ) (t : Bool) (next : Unit {0} → Outcome) → Among n ns → Settled ns d (next tt) → Settled ns d (unless n t d next)
   unless-settled n true next h s = s
@@ -100,7 +101,7 @@ module _ (v : ℕ) (d : List ℕ) where
       let ns = faults ++ asked Lookup in
       sound-settled v d (asked Lookup) _
       (unless-settled ns d 7 (legal name) _ (among 7 ns refl)
-      (row-settled ns d 13 (fileOf d name) _ (among 13 ns refl) (λ r. success-settled ns d _ _ _ _)))
+      (row-settled ns d 13 (fileOf d name) _ (among 13 ns refl) (λ r. success-settled ns d _ _ _ _ _)))
 
   delete-settled : (name : Name) → Settled (faults ++ asked Delete) d (delete v d name)
   unfolding delete successWith
@@ -110,7 +111,7 @@ module _ (v : ℕ) (d : List ℕ) where
       (unless-settled ns d 7 (legal name) _ (among 7 ns refl)
       (unless-settled ns d 19 (not (spared name)) _ (among 19 ns refl)
       (row-settled ns d 13 (fileOf d name) _ (among 13 ns refl)
-      (λ r. unless-settled ns d 20 (not (protected (r .entry))) _ (among 20 ns refl) (success-settled ns d _ _ _ _)))))
+      (λ r. unless-settled ns d 20 (not (protected (r .entry))) _ (among 20 ns refl) (success-settled ns d _ _ _ _ _)))))
 
   restate-settled : (name : Name) (status : ℕ) → Settled (faults ++ asked Protect) d (restate v d name status)
   unfolding restate successWith
@@ -119,7 +120,7 @@ module _ (v : ℕ) (d : List ℕ) where
       sound-settled v d (asked Protect) _
       (unless-settled ns d 7 (legal name) _ (among 7 ns refl)
       (unless-settled ns d 19 (not (spared name)) _ (among 19 ns refl)
-      (row-settled ns d 13 (fileOf d name) _ (among 13 ns refl) (λ r. success-settled ns d _ _ _ _))))
+      (row-settled ns d 13 (fileOf d name) _ (among 13 ns refl) (λ r. success-settled ns d _ _ _ _ _))))
 
   protect-settled : (name : Name) → Settled (faults ++ asked Protect) d (protect v d name)
   unfolding protect
@@ -135,7 +136,7 @@ module _ (v : ℕ) (d : List ℕ) where
       let ns = faults ++ asked Abandon in
       sound-settled v d (asked Abandon) _
       (unless-settled ns d 8 (goodChannel job channel) _ (among 8 ns refl)
-      (row-settled ns d 15 (openOn d (wordOf job channel)) _ (among 15 ns refl) (λ r. success-settled ns d _ _ _ _)))
+      (row-settled ns d 15 (openOn d (wordOf job channel)) _ (among 15 ns refl) (λ r. success-settled ns d _ _ _ _ _)))
 
   rename-settled : (old new : Name) → Settled (faults ++ asked Rename) d (rename v d old new)
   unfolding rename successWith
@@ -147,14 +148,14 @@ module _ (v : ℕ) (d : List ℕ) where
       (row-settled ns d 13 (fileOf d old) _ (among 13 ns refl)
       (λ r.
       unless-settled ns d 20 (not (protected (r .entry))) _ (among 20 ns refl)
-      (unless-settled ns d 14 (isNone (fileOf d new)) _ (among 14 ns refl) (success-settled ns d _ _ _ _))))))
+      (unless-settled ns d 14 (isNone (fileOf d new)) _ (among 14 ns refl) (success-settled ns d _ _ _ _ _))))))
 
   closed-settled : (r : Row) (n : Option ℕ) → Settled (faults ++ asked Close) d (closed d r n)
   closed-settled r none = let ns = faults ++ asked Close in refuse-settled ns d 16 (among 16 ns refl)
   closed-settled r (some n) =
       let ns = faults ++ asked Close in
       unless-settled ns d 16 (leb n (blocks (r .entry))) _ (among 16 ns refl)
-      (unless-settled ns d 20 (not (overProtected d (nameOf (r .entry)))) _ (among 20 ns refl) (success-settled ns d _ _ _ _))
+      (unless-settled ns d 20 (not (overProtected d (nameOf (r .entry)))) _ (among 20 ns refl) (success-settled ns d _ _ _ _ _))
 
   close-settled : (job channel : ℕ) (final : ℤ) → Settled (faults ++ asked Close) d (close v d job channel final)
   unfolding close
@@ -166,7 +167,7 @@ module _ (v : ℕ) (d : List ℕ) where
 
   placed-settled : (t : List ℕ) (n date : ℕ) (new : Entry) (a : Option Area) → Settled (faults ++ asked Enter) d (placed d t n date new a)
   placed-settled t n date new none = let ns = faults ++ asked Enter in refuse-settled ns d 12 (among 12 ns refl)
-  placed-settled t n date new (some a) = success-settled (faults ++ asked Enter) d _ _ _ _
+  placed-settled t n date new (some a) = success-settled (faults ++ asked Enter) d _ _ _ _ _
 
   -- enter's own eight refusals, whatever they test
   eight-settled : (a b c e f x g h : Bool) (o : Outcome) → Settled (faults ++ asked Enter) d o
@@ -225,7 +226,7 @@ module _ (v : ℕ) (d : List ℕ) where
   start-settled extra =
       let ns : List ℕ = 1 ∷ 2 ∷ [] in
       unless-settled ns d 1 (not (bad1 v d)) _ (among 1 ns refl)
-      (unless-settled ns d 2 (leb extra 16) _ (among 2 ns refl) (success-settled ns d _ _ _ _))
+      (unless-settled ns d 2 (leb extra 16) _ (among 2 ns refl) (success-settled ns d _ _ _ _ _))
 
   pub demand1 : Demand1 v d
   unfolding serve

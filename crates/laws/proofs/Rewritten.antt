@@ -38,6 +38,7 @@ pub record Rewritten (v : ℕ) (d : List ℕ) (s : ℕ) (out : List Entry) (D : 
   pub highest : highest D ≡ highest d
   pub chain : chain D ≡ chain d
   pub own : entries D s ≡ out
+  pub first : firstOf (segment D s) ≡ firstOf (segment d s)
   pub others : (z : ℕ) → 1 ≤ z → z ≢ s → entries D z ≡ entries d z
   pub before : List Live
   pub after : List Live
@@ -127,6 +128,7 @@ module _ (v : ℕ) (d : List ℕ) (sd : Sound v d) (s : ℕ) (low : 1 ≤ s) (hi
         highest = top;
         chain = an .chain-is ∙ sym (an .chain-was);
         own = rw (an .extra) entries-in;
+        first = word 4 (omega arith);
         others = λ z l ne. rw (an .extra, other-is z l ne);
         before = an .before;
         after = an .after;

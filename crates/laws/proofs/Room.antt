@@ -29,7 +29,7 @@ use Rattle.laws.proofs.Refusals.{not-among}
 use Rattle.rules.proofs.Soundness.{Sound, sound}
 use Rattle.rules.proofs.Fine.{flag}
 use Rattle.walks.proofs.Flat.{Wide}
-use Rattle.laws.proofs.Way.{Used, chain-used}
+use Rattle.walks.proofs.Linked.{Used, chain-used}
 use Rattle.laws.proofs.Anew.{visited}
 use Rattle.laws.proofs.Rewritten.{used-body}
 use Rattle.laws.proofs.TidiedSound.{Tidied, Alike, tidied-is}
@@ -69,7 +69,7 @@ used-visit : (v : ℕ) (d : List ℕ) → Sound v d → (i : ℕ) → i < highes
 unfolding chain
 used-visit v d sd i l =
     let n = chain-length (highest d) d 1 in
-    subst (Used d) (chain-at (highest d) d 1 i l) (all-at (Used d) (chain d) (chain-used v d sd) i (omega arith) 0)
+    subst (Used d) (chain-at (highest d) d 1 i l) (all-at (Used d) (chain d) (chain-used d (sd .links)) i (omega arith) 0)
 
 -- the areas of one segment of t are among all
 abbrev areasAt : List ℕ → ℕ → List Area
@@ -204,7 +204,7 @@ module _ (v : ℕ) (d : List ℕ) (sd : Sound v d) where
       u = (x .used .0, rw (al .highest) at (x .used .1))
 
   stood-all : All (Stood t) (areasOf d)
-  stood-all = areas-stood t (chain d) (subst (All (Used t)) (al .chain) (chain-used v t (al .sound)))
+  stood-all = areas-stood t (chain d) (subst (All (Used t)) (al .chain) (chain-used t (al .sound .links)))
 
   long-run : (m : ℕ) (a : Area) → FoundRun a → m ≤ a .size → LongRun d m
   long-run m a f l =

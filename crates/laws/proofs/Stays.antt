@@ -1,44 +1,28 @@
 -- What stays in a directory. Writes in place touch only entries of keys that may stand once, so the row of each FILE.BAD is the same
--- afterwards; and the row of the entry that they are about is where it was, read anew. What keeps first blocks and entries, as an enter
--- does, keeps every FILE.BAD.
+-- afterwards. What keeps first blocks and entries, as an enter does, keeps every FILE.BAD.
 use Prim.Native.Nat.{ℕ, _-_}
 use native.Mathlib.Omega.{arith}
 use mathlib.Core.Path.{_≡_, refl, sym, ap, _∙_}
 use mathlib.Core.Logic.{inl, inr}
 use mathlib.Core.Bool.{Bool, true, false, cond}
 use mathlib.Core.List.{List, [], _∷_, map}
-use mathlib.Core.Option.{some, Option·none-ne-some}
 use Rattle.meaning.specs.declared.Name.{Name}
 use Rattle.meaning.specs.declared.Key.{Key}
 use Rattle.meaning.specs.declared.Key.the-variants.{File}
-use Rattle.meaning.specs.Words.{slotWords, Entry, dateOf, Row, rows}
+use Rattle.meaning.specs.Words.{slotWords, Entry, Row, rows}
 use Rattle.meaning.specs.Keys.{holds, fileBad, once}
-use Rattle.meaning.specs.Sound.{fault}
-use Rattle.meaning.specs.Answers.{granted, find, Write, write}
-use Rattle.laws.specs.Kept.{Present, FilePresent, AllStay, BadStays}
+use Rattle.meaning.specs.Answers.{Write, write}
+use Rattle.laws.specs.Kept.{AllStay, BadStays}
 use Rattle.laws.specs.Order.{every}
 use Rattle.walks.specs.Lists.{All}
-use Rattle.walks.proofs.Keyed.{has-key}
 use Rattle.rules.proofs.Keys.{once-bad}
 use Rattle.rules.proofs.Grid.{entryAt}
-use Rattle.rules.proofs.Soundness.{Sound, sound}
-use Rattle.rules.proofs.Rows.{Stand, standing, find-some}
+use Rattle.rules.proofs.Soundness.{Sound}
+use Rattle.rules.proofs.Rows.{Stand, standing}
 use Rattle.rules.proofs.Touch.{live-still, spare, shifted}
 use Rattle.laws.proofs.Move.{Move, rows-moved}
-use Rattle.laws.proofs.Good.{Good, Made}
+use Rattle.laws.proofs.Good.{Good}
 use Rattle.laws.proofs.Living.{Live, face}
-
--- a row that is found stands among the rows, also where each is changed by the same rule
-found-present : (g : Row → Row) (p : Entry → Bool) (rs : List Row) (r : Row) → find p rs ≡ some r
-    → Present (map g rs) (g r .first) (g r .entry)
-unfolding find
-found-present g p [] r e = absurd (Option·none-ne-some r e)
-found-present g p (x ∷ rs) r e = go (p (x .entry)) (found-present g p rs r) e
-  where
-    go : (b : Bool) → (find p rs ≡ some r → Present (map g rs) (g r .first) (g r .entry)) → cond b (some x) (find p rs) ≡ some r
-        → Present (g x ∷ map g rs) (g r .first) (g r .entry)
-    go true i e = let q : x ≡ r = cc in inl (ap (λ (y : Row). g y .first) q, ap (λ (y : Row). g y .entry) q)
-    go false i e = inr (i e)
 
 -- one more among the rows where they stay; rows that are the same but for their slots
 all-stay-skip : (rs : List Row) (s : Row) (ss : List Row) → AllStay rs ss → AllStay rs (s ∷ ss)
@@ -88,24 +72,3 @@ module _ (v : ℕ) (C : Key → Type 0) (δ : ℕ → ℕ) (d d′ : List ℕ) (
 
   pub stays : BadStays d d′
   stays = rw (rows-moved C δ d d′ m) (stays-in (File fileBad) once-bad (rows d) (standing v d s))
-
-  -- the row that is found by a key
-  pub present-anew : (k : Key) (r : Row) → find (holds k) (rows d) ≡ some r → Present (rows d′) (r .first) (f′ (r .at))
-  present-anew k r e =
-      let x = find-some (Stand d) (holds k) (rows d) r (standing v d s) e in
-      let z = live-still k (m .at (r .at) (x .0 .slot .on) .touch) (rw (x .0 .is) at (x .1)) in
-      let y : r .first - δ (r .at) ≡ r .first = omega arith in
-      rw (rows-moved C δ d d′ m) (rw y at (found-present (shifted δ f′) (holds k) (rows d) r e))
-
--- the file that is made of an entry stands where that was
-pub made-present : (v : ℕ) (d : List ℕ) → fault v d ≡ 0 → (r : Row) (k : Key) (name : Name) (n : ℕ) (ws : List Write)
-    → Made d r k (File name) n ws → find (holds k) (rows d) ≡ some r
-    → FilePresent (rows (write d ws)) name (granted (r .first) n (dateOf (r .entry)))
-made-present v d h r k name n ws m e =
-    record {
-      entry = entryAt (write d ws) (slotWords d) (r .at);
-      present = present-anew v _ (m .good .fall) d (write d ws) (sound v d h) (m .good .move) k r e;
-      key = has-key (File name) _ (m .key);
-      length = m .length;
-      date = m .date;
-    }

@@ -25,7 +25,7 @@ use Rattle.walks.proofs.Alls.{all-map}
 use Rattle.rules.proofs.Soundness.{Sound, sound, faultless}
 use Rattle.laws.proofs.Rendered.{Body}
 use Rattle.laws.proofs.Living.{livingOf, counted, count-living}
-use Rattle.laws.proofs.Way.{Used, chain-used}
+use Rattle.walks.proofs.Linked.{Used, chain-used}
 use Rattle.laws.proofs.Anew.{visited, visited-times}
 use Rattle.laws.proofs.Rewritten.{used-body, Rewritten, rewritten}
 use Rattle.laws.proofs.Tidying.{Tidier, tidy-tidier}
@@ -151,7 +151,7 @@ pub record Tidied (v : ℕ) (d t : List ℕ) : Type 0 where
 pub tidied-is : (v : ℕ) (d : List ℕ) → Sound v d → Tidied v d (tidied d (chain d))
 unfolding chain
 tidied-is v d sd =
-    let x = steps v (chain d) d sd (chain-used v d sd) (λ k. at-most-once d k (highest d) 1 (sd .links)) in
+    let x = steps v (chain d) d sd (chain-used d (sd .links)) (λ k. at-most-once d k (highest d) 1 (sd .links)) in
     record {
       alike = x .alike;
       entries = λ s u. x .done s (u .0) (visited-times d s (visited v d sd s (u .0) (u .1)));

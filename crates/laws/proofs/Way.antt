@@ -209,14 +209,3 @@ module _ (v : ℕ) (d ss : List ℕ) (many : length ss ≡ highest d) (way : Way
         full = rw way-chain (ruled .full);
         keys = f;
       }
-
--- the segments of the chain are in use
-abbrev pub Used : List ℕ → ℕ → Type 0
-Used d s = (1 ≤ s) × (s ≤ highest d)
-
-way-used : (d ss : List ℕ) (s b t e : ℕ) → Way (shapeOf d) d ss s b t e → All (Used d) ss
-way-used d [] s b t e y = tt
-way-used d (x ∷ xs) s b t e y = ((y .1 .low, y .1 .high), way-used d xs _ _ t e (y .2))
-
-pub chain-used : (v : ℕ) (d : List ℕ) → Sound v d → All (Used d) (chain d)
-chain-used v d sd = way-used d (chain d) 1 (firstData d) 0 v (sound-way v d sd)

@@ -15,8 +15,8 @@ use Rattle.meaning.specs.declared.Key.the-variants.{File}
 use Rattle.meaning.specs.declared.Request.{Request}
 use Rattle.meaning.specs.declared.Answer.{Answer}
 use Rattle.meaning.specs.Kinds.{permanentStatus, protectedStatus}
-use Rattle.meaning.specs.Words.{Entry, statusWord, nameOf, protected, blocks, dateOf, Row, rows}
-use Rattle.meaning.specs.Keys.{keyOf, fileBad}
+use Rattle.meaning.specs.Words.{Entry, statusWord, nameOf, protected, blocks, Row, rows}
+use Rattle.meaning.specs.Keys.{fileBad}
 use Rattle.meaning.specs.Sound.{fault}
 use Rattle.meaning.specs.Answers.{Outcome, refusal, fileOf, openOn}
 use Rattle.meaning.specs.Requests.{legal, lookup, delete, protect, unprotect, abandon, rename, close, fresh, wordOf}
@@ -63,20 +63,10 @@ abbrev pub Present : List Row → ℕ → Entry → Type 0
 Present [] first e = ⊥
 Present (r ∷ rs) first e = ((r .first ≡ first) × (r .entry ≡ e)) ⊎ Present rs first e
 
--- among these rows stands a file of this name, with the first block, length and date of an answer
-pub record FilePresent (rs : List Row) (name : Name) (a : Answer) : Type 0 where
-  pub entry : Entry
-  pub present : Present rs (a .first) entry
-  pub key : keyOf entry ≡ some (File name)
-  pub length : blocks entry ≡ a .length
-  pub date : dateOf entry ≡ a .date
-
--- a close that succeeds makes the file of its tentative entry's name: it stands in the directory as the close answered it; and where the
+-- a close that succeeds makes the file of its tentative entry's name: it stands where the close answered (specs/Points.antt); and where the
 -- name is legal and not FILE.BAD, of which lookup finds the first, lookup answers just that; every other name is as before
 pub record KeptByClose (v : ℕ) (d : List ℕ) (job channel : ℕ) (final : ℤ) : Type 0 where
   pub sound : fault v (close v d job channel final .words) ≡ 0
-  pub present : (r : Row) → openOn d (wordOf job channel) ≡ some r → close v d job channel final .answer .number ≡ 0
-      → FilePresent (rows (close v d job channel final .words)) (nameOf (r .entry)) (close v d job channel final .answer)
   pub made : (r : Row) → openOn d (wordOf job channel) ≡ some r → close v d job channel final .answer .number ≡ 0
       → legal (nameOf (r .entry)) ≡ true → (nameOf (r .entry) ≡ fileBad → ⊥)
       → lookup v (close v d job channel final .words) (nameOf (r .entry)) .answer ≡ close v d job channel final .answer
@@ -100,15 +90,22 @@ AllStay (r ∷ rs) (s ∷ ss) = ((r .first ≡ s .first) × (r .entry ≡ s .ent
 abbrev pub BadStays : List ℕ → List ℕ → Type 0
 BadStays d after = AllStay (filesOf d fileBad) (filesOf after fileBad)
 
+-- two answers of lookup tell the same of a file, but for where it is
+pub record SameFile (a b : Answer) : Type 0 where
+  pub number : a .number ≡ b .number
+  pub first : a .first ≡ b .first
+  pub length : a .length ≡ b .length
+  pub date : a .date ≡ b .date
+
 -- a request is to unprotect the file of this name
 abbrev pub Unprotects : Name → Request → Type 0
 Unprotects n q = (q .op ≡ Unprotect) × (q .name ≡ n)
 
 -- after some requests a file still stands, with the same words, and so the same status, length and date, from the same block on; and lookup
--- answers it as before, unless it is a FILE.BAD, of which lookup finds the first
+-- answers it as before, though an enter may have moved it to another slot, unless it is a FILE.BAD, of which lookup finds the first
 pub record StillThere (v : ℕ) (d : List ℕ) (qs : List Request) (first : ℕ) (e : Entry) : Type 0 where
   pub present : Present (rows (wordsAfter v d qs)) first e
-  pub answer : (nameOf e ≡ fileBad → ⊥) → lookup v (wordsAfter v d qs) (nameOf e) .answer ≡ lookup v d (nameOf e) .answer
+  pub answer : (nameOf e ≡ fileBad → ⊥) → SameFile (lookup v (wordsAfter v d qs) (nameOf e) .answer) (lookup v d (nameOf e) .answer)
 
 -- a protected file stays through any requests, none of which unprotects it
 abbrev pub ProtectedStays : ℕ → List ℕ → Type 0

@@ -1,4 +1,5 @@
 pub mod Refusals
 pub mod Order
+pub mod Points
 pub mod Kept
 pub mod Room

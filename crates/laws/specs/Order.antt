@@ -37,9 +37,10 @@ InBatch Unprotect = Unit {0}
 unfoldable pub openFor : List ℕ → Request → Option Row
 openFor d q = cond (goodChannel (q .job) (q .channel)) (openOn d (wordOf (q .job) (q .channel))) none
 
-abbrev pub OnOpen : Option Row → (Row → Type 0) → Type 0
-OnOpen none P = ⊥
-OnOpen (some r) P = P r
+-- something holds of the row that is found
+abbrev pub OnFound : Option Row → (Row → Type 0) → Type 0
+OnFound none P = ⊥
+OnFound (some r) P = P r
 
 -- What a request names, by its key. A delete, a protect and an unprotect name their file; a rename both its names; a close and an abandon
 -- their channel, if it is open; a close also the file that its open channel is to make, even where the close is refused, and no file where
@@ -47,8 +48,8 @@ OnOpen (some r) P = P r
 abbrev pub NamesBy : Op → List ℕ → Request → Key → Type 0
 NamesBy Lookup d q k = ⊥
 NamesBy Enter d q k = ⊥
-NamesBy Close d q k = OnOpen (openFor d q) λ r. (k ≡ Open (wordOf (q .job) (q .channel))) ⊎ (k ≡ File (nameOf (r .entry)))
-NamesBy Abandon d q k = OnOpen (openFor d q) λ r. k ≡ Open (wordOf (q .job) (q .channel))
+NamesBy Close d q k = OnFound (openFor d q) λ r. (k ≡ Open (wordOf (q .job) (q .channel))) ⊎ (k ≡ File (nameOf (r .entry)))
+NamesBy Abandon d q k = OnFound (openFor d q) λ r. k ≡ Open (wordOf (q .job) (q .channel))
 NamesBy Delete d q k = k ≡ File (q .name)
 NamesBy Rename d q k = (k ≡ File (q .name)) ⊎ (k ≡ File (q .«new_name»))
 NamesBy Protect d q k = k ≡ File (q .name)

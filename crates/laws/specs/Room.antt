@@ -20,6 +20,7 @@ use Rattle.meaning.specs.Requests.{wordOf, lookup}
 use Rattle.meaning.specs.Enter.{Size, exact, sizeOf, atLeast, tidy, enter}
 use Rattle.rules.specs.Sound.{visit}
 use Rattle.laws.specs.Refusals.{beforeRoom, Among}
+use Rattle.laws.specs.Kept.{SameFile}
 
 -- a run: n neighbouring empty entries after k others, with none before them and none after
 pub record Run (es : List Entry) (k n : ℕ) : Type 0 where
@@ -63,13 +64,6 @@ pub record Room (d : List ℕ) (m : ℕ) (o : Outcome) : Type 0 where
   pub success : o .answer .number ≡ 0 → SlottedRun d m
   pub only : (o .answer .number ≡ 0)
       ⊎ ((o .answer .number ≡ 11) ⊎ ((o .answer .number ≡ 12) ⊎ Among (o .answer .number) beforeRoom))
-
--- two answers of lookup tell the same of a file
-pub record SameFile (a b : Answer) : Type 0 where
-  pub number : a .number ≡ b .number
-  pub first : a .first ≡ b .first
-  pub length : a .length ≡ b .length
-  pub date : a .date ≡ b .date
 
 -- the entry that an enter makes: tentative on the channel word x, with the name and the date that were asked for, from the first block and
 -- of the length that the answer tells; for an exact size this length is that size

@@ -18,7 +18,7 @@ use Rattle.meaning.specs.Requests.{freshWords, fresh}
 use Rattle.meaning.specs.Enter.{sizeOf, joined, dropZero, tidy, withSegment, headerOf, hasRun, hasZero, untidy}
 use Rattle.meaning.specs.Enter.{tidiedAt, tidied, costAfter, hasRoom}
 use Rattle.meaning.specs.Enter.{areasIn, areas, eligibles, longestOf, without, secondOf, wanted, atLeast, longEnough, firstFit}
-use Rattle.meaning.specs.Enter.{endsTentative, kept, inserted, unsplit, split, entered, enter}
+use Rattle.meaning.specs.Enter.{endsTentative, kept, inserted, unsplit, split, entered, splitAt, enteredAt, enter}
 use Rattle.meaning.specs.Batch.{serve, wordsAfter, answersTo, batch}
 use Rattle.meaning.specs.Listing.{sameBytes, digitsOf, decimal, twoDigits, dateText}
 
@@ -50,7 +50,8 @@ all-requests = tt
 
 unfoldable pub all-enter : Unit {0}
 unfolding sizeOf joined dropZero tidy withSegment headerOf hasRun hasZero untidy tidiedAt tidied costAfter hasRoom areasIn areas
-    eligibles longestOf without secondOf wanted atLeast longEnough firstFit endsTentative kept inserted unsplit split entered enter
+    eligibles longestOf without secondOf wanted atLeast longEnough firstFit endsTentative kept inserted unsplit split entered splitAt
+    enteredAt enter
 all-enter = tt
 
 unfoldable pub all-listing : Unit {0}

@@ -6,6 +6,7 @@ use mathlib.Core.List.{List, [], _∷_}
 use mathlib.Core.Option.{Option, none, some}
 use lib.ListN.{set}
 use Rattle.meaning.specs.declared.Answer.{Answer}
+use Rattle.meaning.specs.declared.Position.{Position}
 use Rattle.meaning.specs.declared.Name.{Name}
 use Rattle.meaning.specs.declared.Key.the-variants.{File, Open}
 use Rattle.meaning.specs.Words.{Entry, protected, Row, rows}
@@ -23,19 +24,24 @@ pub record Meets (r : Answer) (after : List ℕ) (o : Outcome) : Type 0 where
 
 -- a refusal: its number, and zeros
 abbrev pub refusal : ℕ → Answer
-refusal n = record { number = n; first = 0; length = 0; date = 0 }
+refusal n = record { number = n; first = 0; length = 0; date = 0; segment = 0; slot = 0 }
 
--- a success: number 0, and what is known of the entry that the request is about
-abbrev pub granted : ℕ → ℕ → ℕ → Answer
-granted first length date = record { number = 0; first = first; length = length; date = date }
+-- a success: number 0, and what is known of the entry that the request is about; from document 02, Req 08, on also where it is
+abbrev pub granted : ℕ → ℕ → ℕ → Position → Answer
+granted first length date p =
+    record { number = 0; first = first; length = length; date = date; segment = p .segment; slot = p .slot }
+
+-- where the entry of a row is
+abbrev pub positionOf : Row → Position
+positionOf r = record { segment = r .seg; slot = r .slot }
 
 -- a refused request changes no word
 unfoldable pub refuse : ℕ → List ℕ → Outcome
 refuse n d = record { answer = refusal n; words = d }
 
 -- a success answers the entry as it stands afterwards
-unfoldable pub success : ℕ → ℕ → ℕ → List ℕ → Outcome
-success first length date after = record { answer = granted first length date; words = after }
+unfoldable pub success : ℕ → ℕ → ℕ → Position → List ℕ → Outcome
+success first length date p after = record { answer = granted first length date p; words = after }
 
 -- A request is written as its tests, one to a line, smallest number first: either the refusal, or what comes next
 abbrev pub passed : ℕ → List ℕ → (Unit {0} → Outcome) → Outcome

@@ -8,6 +8,7 @@ use lib.IntN.{ℤ, pos, negsuc}
 use lib.Dec.{eqb, leb, ltb}
 use Rattle.dates.specs.Dates.{goodDate}
 use Rattle.meaning.specs.declared.Name.{Name}
+use Rattle.meaning.specs.declared.Position.{Position}
 use Rattle.meaning.specs.Kinds.{tentativeStatus, isTentative, isEmpty}
 use Rattle.meaning.specs.Words.{segments, segment, totalOf, linkOf, extraBytesOf, firstOf, highest, slotWords, capacity, Entry}
 use Rattle.meaning.specs.Words.{lengthWord, kind, blocks, entries, total, chain}
@@ -219,10 +220,28 @@ entered t new n a =
     let two = split t new n a in
     cond (leb (length (entries t (a .seg)) + a .cost) (capacity t)) one two
 
--- success answers the tentative entry, which stands where the area began. (An eligible area is there where 12 is not given.)
+-- Where the new entry is (document 02, Req 08): in segment s after k entries it is in the last of the slots that it costs, since the area
+-- of length 0, if one comes, comes before it
+abbrev pub newAfter : ℕ → ℕ → ℕ → Position
+newAfter s k cost = record { segment = s; slot = k + cost }
+
+-- after a split it is in whichever of the two segments has its area
+unfoldable pub splitAt : List ℕ → Area → Position
+splitAt t a =
+    let k = a .before in
+    let h = kept (entries t (a .seg)) in
+    cond (ltb k h) (newAfter (a .seg) k (a .cost)) (newAfter (highest t + 1) (k - h) (a .cost))
+
+unfoldable pub enteredAt : List ℕ → Area → Position
+enteredAt t a =
+    let one = newAfter (a .seg) (a .before) (a .cost) in
+    let two = splitAt t a in
+    cond (leb (length (entries t (a .seg)) + a .cost) (capacity t)) one two
+
+-- success answers the tentative entry, which begins where the area began. (An eligible area is there where 12 is not given.)
 abbrev pub placed : List ℕ → List ℕ → ℕ → ℕ → Entry → Option Area → Outcome
 placed d t n date new none = refuse 12 d
-placed d t n date new (some a) = success (a .first) n date (entered t new n a)
+placed d t n date new (some a) = success (a .first) n date (enteredAt t a) (entered t new n a)
 
 -- 11 looks at all areas, 12 at those that may be taken. Both look at the tidied words; a refusal leaves d as it was
 unfoldable pub enter : ℕ → List ℕ → Name → ℤ → ℕ → ℕ → ℕ → Outcome

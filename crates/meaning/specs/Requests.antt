@@ -14,15 +14,15 @@ use Rattle.meaning.specs.Words.{segments, firstData, slotWords, Entry, R
 use Rattle.meaning.specs.Words.{statusWord, nameWord, name2Word, extensionWord, lengthWord, channelWord, nameOf, protected, blocks, dateOf}
 use Rattle.meaning.specs.Keys.{spared}
 use Rattle.meaning.specs.Sound.{bad1}
-use Rattle.meaning.specs.Answers.{Outcome, refuse, success, ifSound, unless, onRow, isNone, isProtected, fileOf, openOn, Write, put, write}
+use Rattle.meaning.specs.Answers.{Outcome, positionOf, refuse, success, ifSound, unless, onRow, isNone, isProtected, fileOf, openOn, Write, put, write}
 
 -- a requested name
 abbrev pub legal : Name → Bool
 legal n = legalName (n .first) (n .second) (n .extension)
 
--- success with an entry that keeps its length and date
+-- success with an entry that keeps its length and date; it stands where it stood
 unfoldable pub successWith : Row → List ℕ → Outcome
-successWith r after = success (r .first) (blocks (r .entry)) (dateOf (r .entry)) after
+successWith r after = success (r .first) (blocks (r .entry)) (dateOf (r .entry)) (positionOf r) after
 
 -- Lookup changes nothing
 unfoldable pub lookup : ℕ → List ℕ → Name → Outcome
@@ -137,7 +137,7 @@ closed d r none = refuse 16 d
 closed d r (some n) =
     unless 16 (leb n (blocks (r .entry))) d λ _.
     unless 20 (not (overProtected d (nameOf (r .entry)))) d λ _.
-    success (r .first) n (dateOf (r .entry)) (write d (closing d r n))
+    success (r .first) n (dateOf (r .entry)) (positionOf r) (write d (closing d r n))
 
 unfoldable pub close : ℕ → List ℕ → ℕ → ℕ → ℤ → Outcome
 close v d job channel final =
@@ -171,9 +171,10 @@ freshWords v d extra =
     (emptyEntry (7 + extra) (v - firstData d) ∷ [])
     ++ replicate (512 * (segments d - 1)) 0
 
--- what stood in the words before is not looked at, so that only the sizes can be refused; the answer is the area
+-- what stood in the words before is not looked at, so that only the sizes can be refused; the answer is the area, the one
+-- entry of segment 1
 unfoldable pub fresh : ℕ → List ℕ → ℕ → Outcome
 fresh v d extra =
     unless 1 (not (bad1 v d)) d λ _.
     unless 2 (leb extra 16) d λ _.
-    success (firstData d) (v - firstData d) 0 (freshWords v d extra)
+    success (firstData d) (v - firstData d) 0 (record { segment = 1; slot = 1 }) (freshWords v d extra)

@@ -84,12 +84,20 @@ pub struct Request {
     pub date: u16,
 }
 
-// The answer to a request: 0 and the entry concerned, or the number of the refusal and zeros.
+// Where an entry is: its segment and slot, both counted from 1.
+pub struct Position {
+    pub segment: u16,
+    pub slot: u16,
+}
+
+// The answer to a request: 0 and the entry concerned, where it is after the request, or the number of the refusal and zeros.
 pub struct Answer {
     pub number: u16,
     pub first: u16,
     pub length: u16,
     pub date: u16,
+    pub segment: u16,
+    pub slot: u16,
 }
 
 // The answer of a refusal, and that of a success. No other place writes the fields of an answer.
@@ -101,16 +109,20 @@ pub fn refused(number: u16) -> Answer
         first: 0,
         length: 0,
         date: 0,
+        segment: 0,
+        slot: 0,
     }
 }
 
-pub fn succeeded(first: u16, length: u16, date: u16) -> Answer
-    ensures { λ r. ⌜ r ≡ granted first length date ⌝ }
+pub fn succeeded(first: u16, length: u16, date: u16, position: Position) -> Answer
+    ensures { λ r. ⌜ r ≡ granted first length date position ⌝ }
 {
     Answer {
         number: 0,
         first,
         length,
         date,
+        segment: position.segment,
+        slot: position.slot,
     }
 }

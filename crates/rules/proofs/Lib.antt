@@ -11,3 +11,4 @@ pub mod Rows
 pub mod Blocks
 pub mod Grown
 pub mod Fine
+pub mod Standing

@@ -1,2 +1,3 @@
 pub mod Sound
 pub mod Blocks
+pub mod Standing

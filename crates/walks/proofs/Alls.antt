@@ -2,7 +2,7 @@
 -- another order of the list.
 use Prim.Native.Nat.{ℕ, zero, suc, _<_}
 use mathlib.Core.Path.{subst}
-use mathlib.Core.List.{List, [], _∷_, _++_, List·Permᴰ, List·Permᴰ·nil, List·Permᴰ·cons, List·Permᴰ·swap, List·Permᴰ·trans}
+use mathlib.Core.List.{List, [], _∷_, _++_, map, List·Permᴰ, List·Permᴰ·nil, List·Permᴰ·cons, List·Permᴰ·swap, List·Permᴰ·trans}
 use native.Mathlib.Nat.{le-of-suc-le-suc, not-suc-le-zero}
 use lib.ListN.{length, getD}
 use Rattle.walks.specs.Lists.{All, Pairwise}
@@ -11,6 +11,10 @@ module _ {A : Type 0} where
   pub all-map : (P Q : A → Type 0) → ((x : A) → P x → Q x) → (xs : List A) → All P xs → All Q xs
   all-map P Q f [] a = tt
   all-map P Q f (x ∷ xs) a = (f x (a .0), all-map P Q f xs (a .1))
+
+  pub all-mapped : (P : A → Type 0) (g : A → A) (xs : List A) → All P (map g xs) → All (λ x. P (g x)) xs
+  all-mapped P g [] a = tt
+  all-mapped P g (x ∷ xs) a = (a .0, all-mapped P g xs (a .1))
 
   pub all-both : (P Q R : A → Type 0) → ((x : A) → P x → Q x → R x) → (xs : List A) → All P xs → All Q xs → All R xs
   all-both P Q R f [] a b = tt

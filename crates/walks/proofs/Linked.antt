@@ -18,6 +18,7 @@ use Rattle.meaning.specs.Sound.{any, times, eachOnce, differs, bad3}
 use Rattle.walks.specs.Links.{linked}
 use Rattle.walks.specs.Lists.{All}
 use Rattle.walks.proofs.Lists.{next, chain-length}
+use Rattle.walks.proofs.Alls.{all-map}
 
 -- what a walk tells of its first segment, and of one that is no more
 pub record Visit (n : ℕ) (d : List ℕ) (s : ℕ) : Type 0 where
@@ -225,17 +226,24 @@ pub unused-never : (d : List ℕ) → linked (highest d) d 1 ≡ true → (s : �
 unfolding chain
 unused-never d c s l = beyond (highest d) d 1 s c l
 
+-- the segments of the chain are in use
+abbrev pub Used : List ℕ → ℕ → Type 0
+Used d s = (1 ≤ s) × (s ≤ highest d)
+
+used-from : (d : List ℕ) (n s : ℕ) → linked n d s ≡ true → All (Used d) (chainFrom n d s)
+unfolding chainFrom
+used-from d zero s h = tt
+used-from d (suc n) s h =
+    let v = visit n d s h in
+    ((v .low, v .high), used-from d n (next d s) (v .rest))
+
+pub chain-used : (d : List ℕ) → linked (highest d) d 1 ≡ true → All (Used d) (chain d)
+unfolding chain
+chain-used d h = used-from d (highest d) 1 h
+
 -- a segment that lies in a slice of n words; and where H segments do, each of the chain does
 abbrev pub Inside : ℕ → ℕ → Type 0
 Inside n s = (1 ≤ s) × (512 * s ≤ n)
 
-inside-from : (d : List ℕ) → 512 * highest d ≤ length d → (n s : ℕ) → linked n d s ≡ true → All (Inside (length d)) (chainFrom n d s)
-unfolding chainFrom
-inside-from d l zero s h = tt
-inside-from d l (suc n) s h =
-    let v = visit n d s h in
-    ((v .low, omega (arith, v .high)), inside-from d l n (next d s) (v .rest))
-
 pub chain-inside : (d : List ℕ) → 512 * highest d ≤ length d → linked (highest d) d 1 ≡ true → All (Inside (length d)) (chain d)
-unfolding chain
-chain-inside d l h = inside-from d l (highest d) 1 h
+chain-inside d l h = all-map (Used d) (Inside (length d)) (λ s u. (u .0, omega (arith, u .1))) (chain d) (chain-used d h)

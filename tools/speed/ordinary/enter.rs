@@ -244,12 +244,13 @@ pub fn enter_sound(d: &mut [u16], name: Name, size: i32, job: u16, channel: u16,
         unreachable!()
     };
     let first = spot.area.first;
-    place(d, found.untidy, spot, [TENTATIVE, name.first, name.second, name.extension, blocks, word, date]);
-    Answer { number: 0, first, length: blocks, date }
+    let placed = place(d, found.untidy, spot, [TENTATIVE, name.first, name.second, name.extension, blocks, word, date]);
+    let (segment, slot) = (placed.number as u16, (placed.area.before + placed.area.cost) as u16);
+    Answer { number: 0, first, length: blocks, date, segment, slot }
 }
 
-/// Every untidy segment is tidied, and the new entry put into its spot.
-fn place(d: &mut [u16], untidy: u32, mut spot: Spot, new: [u16; 7]) {
+/// Every untidy segment is tidied, and the new entry put into its spot, which is answered as it is after a split.
+fn place(d: &mut [u16], untidy: u32, mut spot: Spot, new: [u16; 7]) -> Spot {
     let width = width_of(d);
     for number in 1..32 {
         if untidy >> number & 1 == 1 {
@@ -260,6 +261,7 @@ fn place(d: &mut [u16], untidy: u32, mut spot: Spot, new: [u16; 7]) {
         spot = split(d, width, spot);
     }
     insert(segment_mut(d, spot.number), width, spot.count, spot.area, new);
+    spot
 }
 
 #[inline(never)]
@@ -281,5 +283,5 @@ pub fn fresh(d: &mut [u16], v: usize, extra: usize) -> Answer {
     d[..6].copy_from_slice(&[n as u16, 0, 1, 2 * extra as u16, first as u16, EMPTY]);
     d[9] = (v - first) as u16;
     d[12 + extra] = END;
-    Answer { number: 0, first: first as u16, length: (v - first) as u16, date: 0 }
+    Answer { number: 0, first: first as u16, length: (v - first) as u16, date: 0, segment: 1, slot: 1 }
 }

@@ -3,10 +3,12 @@ use crate::sound::fault;
 use crate::words::*;
 use crate::{refused, Answer, Name};
 
-/// The place of an entry's first word, and its first block.
+/// The place of an entry's first word, its first block, and its segment and slot, both from 1.
 pub(crate) struct Place {
     pub(crate) at: usize,
     first: u16,
+    segment: u16,
+    slot: u16,
 }
 
 /// The first entry that passes the test. Blocks are summed in its segment alone.
@@ -19,7 +21,8 @@ fn find(d: &[u16], is_it: impl Fn(&[u16; 7]) -> bool) -> Option<Place> {
         for (k, e) in slots(g, width).enumerate() {
             if is_it(e) {
                 let before: u16 = slots(g, width).take(k).map(|e| e[4]).sum();
-                return Some(Place { at: 512 * (number - 1) + 5 + k * width, first: g[4] + before });
+                let at = 512 * (number - 1) + 5 + k * width;
+                return Some(Place { at, first: g[4] + before, segment: number as u16, slot: k as u16 + 1 });
             }
             if e[0] == END {
                 break;
@@ -40,7 +43,8 @@ fn find_open(d: &[u16], word: u16) -> Option<Place> {
 }
 
 fn answered(d: &[u16], place: Place) -> Answer {
-    Answer { number: 0, first: place.first, length: d[place.at + 4], date: d[place.at + 6] }
+    let Place { at, first, segment, slot } = place;
+    Answer { number: 0, first, length: d[at + 4], date: d[at + 6], segment, slot }
 }
 
 pub fn lookup_sound(d: &[u16], name: Name) -> Answer {

@@ -59,8 +59,10 @@ pub struct Answer {
     pub first: u16,
     pub length: u16,
     pub date: u16,
+    pub segment: u16,
+    pub slot: u16,
 }
 
 pub(crate) fn refused(number: u16) -> Answer {
-    Answer { number, first: 0, length: 0, date: 0 }
+    Answer { number, first: 0, length: 0, date: 0, segment: 0, slot: 0 }
 }

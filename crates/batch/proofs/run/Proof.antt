@@ -66,7 +66,7 @@ use Rattle.meaning.specs.Batch as meaning
 use Rattle.meaning.specs.Answers as answers
 use Rattle.batch.specs.Ran.{Ran}
 use Rattle.batch.proofs.Locals.{RQ, RA, int₁₆, int₆₄, slice₀, slice₁, slice₂, refₑ, sliceₑ, refᵢ, sliceᵢ, valsQ, valsA}
-use Rattle.batch.proofs.Locals.{scaled₃₂, scaled₈}
+use Rattle.batch.proofs.Locals.{bytesQ, bytesA, scaledQ, scaledA}
 use Rattle.batch.proofs.Steps.{cases, differ, agree, row-from, pairs-back, fits₆₄, var, count-of, pointer-of, place-of, sets, resets}
 use Rattle.batch.proofs.Again.{LentAgain, lends-again, comes-back, LentToRead, lends-to-read, comes-back-read}
 use Rattle.batch.proofs.Fold.{noAnswer, noRequest, Turn, start, next, ran, refused}
@@ -359,7 +359,7 @@ module _ {M : Type 1} (𝓤 : URA M) (H : Heap 𝓤) (A : Atoms 𝓤) (W : Given
           -- `requests[i]`: its place is looked into, and the record copied
           resets ! (bin ! (var ! 28 refl) (lit ! tt) (record { fits = in₁ })) 16 refl (fits₆₄ in₁) $
           sets ! (bin ! (pointer-of ! 34 refl refl) (var ! 16 refl) tt) 6 refl (tt, tt) $
-          rewrite ! 6 (λ (p : ℕ). ‵ (fat fullShare tyPtr l₁₇ 0 (vptr b₁ p))) (sym (place-is 32 o₁ (t .i))) refl $
+          rewrite ! 6 (λ (p : ℕ). ‵ (fat fullShare tyPtr l₁₇ 0 (vptr b₁ p))) (sym (place-is bytesQ o₁ (t .i))) refl $
           move ! (45 ∷ 46 ∷ []) $
           looks-slice ! tt RQ (Is RQ) (shows 𝓤 H A RQ) valsQ (LL.tells TQ.the-type TQ′.the-laws)
           (LL.copy TQ.the-type TQ′.the-copy 𝓤 H A W) rs b₁ o₁ (λ q′.
@@ -407,7 +407,7 @@ module _ {M : Type 1} (𝓤 : URA M) (H : Heap 𝓤) (A : Atoms 𝓤) (W : Given
           -- `answers[i]`: the borrow is opened, the element stored to, and the borrow closed
           sets ! (bin ! (var ! 36 refl) (lit ! tt) (record { fits = in₂ })) 10 refl (fits₆₄ in₂) $
           sets ! (bin ! (pointer-of ! 40 refl refl) (var ! 10 refl) tt) 8 refl (tt, tt) $
-          rewrite ! 8 (λ (p : ℕ). ‵ (fat fullShare tyPtr l₂₀ 0 (vptr b₂ p))) (sym (place-is 8 o₂ (t .i))) refl $
+          rewrite ! 8 (λ (p : ℕ). ‵ (fat fullShare tyPtr l₂₀ 0 (vptr b₂ p))) (sym (place-is bytesA o₂ (t .i))) refl $
           move ! (50 ∷ 51 ∷ 52 ∷ []) $
           opens-slice ! tt RA (t .As) b₂ o₂ $
           elem-out ! RA (Is RA) (shows 𝓤 H A RA) valsA (LL.tells TA.the-type TA′.the-laws) fullShare (t .As) (t .i) noAnswer b₂ o₂ la
@@ -433,11 +433,11 @@ module _ {M : Type 1} (𝓤 : URA M) (H : Heap 𝓤) (A : Atoms 𝓤) (W : Given
           la : t .i < length (t .As)
           la = subst (λ (n : ℕ). t .i < n) (sym (t .lenA)) l
 
-          in₁ : t .i * 32 < 2 ^ 64
-          in₁ = scaled₃₂ (length rs) (t .i) (gr .1) l
+          in₁ : t .i * bytesQ < 2 ^ 64
+          in₁ = scaledQ (length rs) (t .i) (gr .1) l
 
-          in₂ : t .i * 8 < 2 ^ 64
-          in₂ = scaled₈ (length us) (t .i) (ga .1) (subst (λ (n : ℕ). t .i < n) same l)
+          in₂ : t .i * bytesA < 2 ^ 64
+          in₂ = scaledA (length us) (t .i) (ga .1) (subst (λ (n : ℕ). t .i < n) same l)
 
           one-more : t .i + 1 < 2 ^ 64
           one-more = one-more-fits (length rs) (t .i) (gr .0) l

@@ -2,7 +2,7 @@
 -- lifetime made for the call, and d is lent again; `run` is called; all three come back, each part is put together with the rest of its
 -- array, and a struct of the number and the array of answers is returned. All that is known of `run` is its contract. Assumes nothing.
 use mathlib.Core.Path.{_≡_, refl, sym, _∙_, ap, subst}
-use Prim.Native.Nat.{ℕ, _+_, _-_, _*_, _<_, _≤_, _^_}
+use Prim.Native.Nat.{ℕ, _+_, _-_, _<_, _≤_, _^_}
 use native.Mathlib.Omega.{arith}
 use mathlib.Core.List.{List, [], _∷_, _++_, map}
 use lib.Dec.{T}
@@ -52,7 +52,7 @@ use Rattle.meaning.specs.declared.Answer.{Answer}
 use Rattle.batch.specs.declared.Part.{Part}
 use Rattle.meaning.specs.Batch.{batch}
 use Rattle.batch.specs.Ran.{Ran, Left}
-use Rattle.batch.proofs.Locals.{RQ, RA, int₁₆, sliceₑ}
+use Rattle.batch.proofs.Locals.{RQ, RA, int₁₆, sliceₑ, eightQ, eightA}
 use Rattle.batch.proofs.Locals as one
 use Rattle.batch.proofs.Steps.{row-from, pairs-back, fits₆₄, var, count-of, place-of, sets}
 use Rattle.batch.proofs.Again.{LentAgain, lends-again, comes-back}
@@ -135,12 +135,6 @@ rest-fits k n l = omega (arith, l)
 
 below₆₄ : (k : ℕ) → k ≤ 8 → k < 2 ^ 64
 below₆₄ k l = omega (arith, l)
-
-below₃₂ : (k : ℕ) → k ≤ 8 → k * 32 < 2 ^ 63
-below₃₂ k l = omega (arith, l)
-
-below₈ : (k : ℕ) → k ≤ 8 → k * 8 < 2 ^ 63
-below₈ k l = omega (arith, l)
 
 module _ {M : Type 1} (𝓤 : URA M) (H : Heap 𝓤) (A : Atoms 𝓤) (W : Given 𝓤 H A) (mem : Memory → SProp 𝓤) (run : Routine → Fun 𝓤) (κ : Lft)
     (q : Share) (b o : ℕ) (γ : GName) (ds : List ℕ) (v : ℕ) (ps : List Request) (n : ℕ) (us : List Answer) (m : ℕ)
@@ -284,10 +278,10 @@ module _ {M : Type 1} (𝓤 : URA M) (H : Heap 𝓤) (A : Atoms 𝓤) (W : Given
   whole-u = ap (λ (k : ℕ). m + k) (length-drop m us ∙ ap (λ (k : ℕ). k - m) (gu .1 .0 .1)) ∙ rest-fits m 8 (asked .1)
 
   room-p : Room RQ n
-  room-p = (below₆₄ n (asked .0), below₃₂ n (asked .0))
+  room-p = (below₆₄ n (asked .0), eightQ n (asked .0))
 
   room-u : Room RA m
-  room-u = (below₆₄ m (asked .1), below₈ m (asked .1))
+  room-u = (below₆₄ m (asked .1), eightA m (asked .1))
 
   module _ (C : Calls 𝓤 H) (Λ : Loops 𝓤 H) (fm : FmC 𝓤 H (W .laws) C) (known : Triple 𝓤 (C #batch·run) (Run 𝓤 H A mem run)) where
     walk : ent 𝓤 (onEntry 𝓤 H A part.signature (κ, tt) (q, tt) arg at)

@@ -99,20 +99,16 @@ empty-old-requires c κs =
     let d = now (start f .args .d) in
     inside-less (f .find-old .result) (slotWords d) (length d) _ (omega arith) (sym (m .make-permanent .kept .0)) (f .find-old .ensures .inside)
 
-cast-succeeded : tie.Need-cast-succeeded
-cast-succeeded c =
-    let q = ready-at (start (c .before .before .before .before .before .before .before .before .before .before .before)) in
-    omega arith
-
-succeeded-requires : tie.Need-succeeded-requires
-succeeded-requires c κs = search needs
+answered-with-requires : tie.Need-answered-with-requires
+answered-with-requires c κs =
+    ready-at (start (c .before .before .before .before .before .before .before .before .before .before)) .small
 
 same-length-2 : tie.Need-same-length-2
 same-length-2 c = search needs
 
 returns-2 : tie.Need-returns-2
 returns-2 c =
-    let e = c .before .before .before .before in
+    let e = c .before .before .before in
     let m = e .before .before .before .before in
     let i = m .before .before in
     let f = i .before .before in
@@ -125,7 +121,7 @@ returns-2 c =
     let w = ap (λ (z : List ℕ). write z (replacingAt (f .find-old .result))) (m .make-permanent .ensures) in
     rw (closed-on d (a .word) (a .size) (a .place) o q u)
     (record {
-      answer = c .succeeded .ensures;
+      answer = c .answered-with .ensures;
       words = e .empty-old .ensures ∙ w ∙ closed-words d (a .place) (o .row) (a .size) _ q (old-at f);
     })
 
@@ -145,7 +141,6 @@ close-at-spec =
     returns
     make-permanent-requires
     empty-old-requires
-    cast-succeeded
-    succeeded-requires
+    answered-with-requires
     same-length-2
     returns-2)

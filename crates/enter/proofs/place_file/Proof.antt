@@ -3,11 +3,11 @@
 use borrow.Author.Needs.{needs}
 use native.Mathlib.Omega.{arith}
 use Prim.Native.Nat.{ℕ}
-use mathlib.Core.Path.{_≡_}
+use mathlib.Core.Path.{_≡_, ap, _∙_}
 use mathlib.Core.List.{List}
 use denote.Ref.{now}
 use Rattle.meaning.specs.Words.{chain}
-use Rattle.meaning.specs.Answers.{success}
+use Rattle.meaning.specs.Answers.{granted, success}
 use Rattle.meaning.specs.Enter.{tidied}
 use Rattle.choice.specs.declared.choose.Chosen.{Chosen}
 use Rattle.choice.specs.declared.choose.Chosen.the-variants.{At}
@@ -66,18 +66,18 @@ returns c =
     let e = fitted-at f _ (c .before .enum-told .given .1) in
     absurd (somewhere (s .args .v) (now (s .args .d)) (s .pre .0) (s .args .blocks) e (s .pre .2))
 
-sub-t17 : tie.Need-sub-t17
-sub-t17 c =
+sub-t18 : tie.Need-sub-t18
+sub-t18 c =
     let x = enterable-at (c .before .before) .chosen .low in
     omega arith
 
-mul-t18 : tie.Need-mul-t18
-mul-t18 c =
+mul-t19 : tie.Need-mul-t19
+mul-t19 c =
     let x = enterable-at (c .before .before) in
     record { fits = omega (arith, x .chosen .high, x .chained .whole, x .chained .few) }
 
-sub-t19 : tie.Need-sub-t19
-sub-t19 c =
+sub-t20 : tie.Need-sub-t20
+sub-t20 c =
     let t = c .before .before .before in
     let s = begun t in
     at-after (s .args .v) (now (s .args .d)) (s .pre .0) (s .args .blocks) _ (chosen-at t)
@@ -98,7 +98,10 @@ succeeded-requires : tie.Need-succeeded-requires
 succeeded-requires c κs = search needs
 
 same-length-2 : tie.Need-same-length-2
-same-length-2 c = search needs
+same-length-2 c =
+    let m = c .before .before .before .before in
+    let t = m .before .before .before .before .before in
+    m .enter-area .kept .0 ∙ t .before .before .before .before .before .before .tidy-if .kept .0
 
 returns-2 : tie.Need-returns-2
 unfolding success
@@ -109,7 +112,10 @@ returns-2 c =
     let a = s .args in
     let e = t .before .before .before .before .before .before .tidy-if .ensures in
     rw (placed-at (a .v) (now (a .d)) (s .pre .0) (a .blocks) _ (chosen-at t) (a .name) (a .channel) (a .date))
-    (record { answer = c .succeeded .ensures; words = rw e at (m .enter-area .ensures) })
+    (record {
+      answer = c .succeeded .ensures ∙ ap (granted _ _ _) (rw e at (m .enter-area .ensures .position));
+      words = rw e at (m .enter-area .ensures .words);
+    })
 
 pub place-file-spec : {M : Type 1} → statement M
 place-file-spec =
@@ -122,9 +128,9 @@ place-file-spec =
     refused-requires
     same-length
     returns
-    sub-t17
-    mul-t18
-    sub-t19
+    sub-t18
+    mul-t19
+    sub-t20
     enter-area-requires
     cast-succeeded
     succeeded-requires

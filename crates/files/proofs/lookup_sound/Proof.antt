@@ -6,7 +6,7 @@ use denote.Ref.{now}
 use Rattle.meaning.specs.Answers.{refuse}
 use Rattle.chain.proofs.Chains.{fault-chained}
 use Rattle.meaning.specs.declared.Key.the-variants.{File}
-use Rattle.find.proofs.Behind.{first-fits}
+use Rattle.find.proofs.Behind.{place-small}
 use Rattle.walks.proofs.Outcomes.{answer-of}
 use Rattle.files.proofs.Tested.{lookup-illegal, lookup-at, lookup-none}
 use Rattle.files.proofs.lookup_sound.Statement.{statement}
@@ -37,7 +37,7 @@ answered-requires : tie.Need-answered-requires
 answered-requires c κs =
     let f = c .before .before .before in
     let s = f .before .before .before .before in
-    first-fits (s .args .v) (now (s .args .d)) (s .pre) (File (s .args .name)) _ (sym (f .find-entry .ensures .is) ∙ c .before .found .given .1)
+    place-small (s .args .v) (now (s .args .d)) (s .pre) (File (s .args .name)) _ (sym (f .find-entry .ensures .is) ∙ c .before .found .given .1)
 
 enum-told : tie.Need-enum-told
 enum-told c = search needs

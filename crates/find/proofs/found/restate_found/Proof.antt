@@ -6,7 +6,7 @@ use mathlib.Core.Path.{refl, sym, _∙_}
 use denote.Ref.{now}
 use Rattle.meaning.specs.Answers.{refuse}
 use Rattle.chain.proofs.Chains.{fault-chained}
-use Rattle.find.proofs.Behind.{first-fits, restated-at, restated-none}
+use Rattle.find.proofs.Behind.{place-small, restated-at, restated-none}
 use Rattle.segment.proofs.Searching.{place-inside}
 use Rattle.find.proofs.found.restate_found.Statement.{statement}
 use Rattle.find.proofs.found.restate_found.Tie as tie
@@ -28,7 +28,7 @@ answered-requires c κs =
     let t = c .before .before .before .before .before in
     let f = t .before .before in
     let s = f .before .before .before in
-    first-fits (s .args .v) (now (s .args .d)) (s .pre) (s .args .key) _ (sym (f .find-entry .ensures .is) ∙ t .found .given .1)
+    place-small (s .args .v) (now (s .args .d)) (s .pre) (s .args .key) _ (sym (f .find-entry .ensures .is) ∙ t .found .given .1)
 
 enum-told : tie.Need-enum-told
 enum-told c = search needs

@@ -2,7 +2,8 @@
 use borrow.Author.Needs.{needs}
 use native.Mathlib.Omega.{arith}
 use native.Mathlib.Nat.{div-le-self}
-use Rattle.insert.proofs.Placing.{count-is, fits-in, splittable, entered-whole, entered-split}
+use denote.Ref.{now}
+use Rattle.insert.proofs.Placing.{count-is, fits-in, splittable, entered-whole, entered-split, spot-small}
 use Rattle.insert.proofs.place.enter_area.Statement.{statement}
 use Rattle.insert.proofs.place.enter_area.Tie as tie
 
@@ -49,19 +50,25 @@ insert-requires c κs =
     let k = c .before .before .before .count-entries .ensures in
     (h .chained, h .chosen, count-is h w k, fits-in h w k (c .before .if1 .taken))
 
+new-after-requires : tie.Need-new-after-requires
+new-after-requires c κs =
+    let s = c .before .before .before .before .before .before .before .before .before .before .before .before .before in
+    let l = spot-small (now (s .args .directory)) (s .args .spot) (s .args .new .length) (s .pre .chained) (s .pre .chosen) in
+    (l .0, l .2)
+
 same-length : tie.Need-same-length
 same-length c = search needs
 
 returns : tie.Need-returns
 returns c =
-    let c1 = c .before .before .before .before in
+    let c1 = c .before .before .before .before .before in
     let c2 = c1 .before .before in
     let c3 = c2 .before .before .before .before in
     let c4 = c3 .before .before .before in
     let h = c4 .pre in
     let w = c3 .slot-words .ensures in
     let k = c2 .count-entries .ensures in
-    entered-whole h w k _ _ (c1 .if1 .taken) (c .before .before .insert .ensures)
+    entered-whole h w k _ _ _ (c1 .if1 .taken) (c .new-after .ensures) (c .before .before .before .insert .ensures)
 
 split-and-insert-requires : tie.Need-split-and-insert-requires
 split-and-insert-requires c κs =
@@ -82,7 +89,7 @@ returns-2 c =
     let h = c4 .pre in
     let w = c3 .slot-words .ensures in
     let k = c2 .count-entries .ensures in
-    entered-split h w k _ _ (c1 .if1 .left) (c .before .before .split-and-insert .ensures)
+    entered-split h w k _ _ _ (c1 .if1 .left) (c .before .before .split-and-insert .ensures)
 
 pub enter-area-spec : {M : Type 1} → statement M
 enter-area-spec =
@@ -100,6 +107,7 @@ enter-area-spec =
     add-if1
     div-if1
     insert-requires
+    new-after-requires
     same-length
     returns
     split-and-insert-requires

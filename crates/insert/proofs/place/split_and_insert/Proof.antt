@@ -7,7 +7,7 @@ use Prim.Native.Nat.{_+_, _*_, _≤_}
 use Rattle.meaning.specs.Words.{highest}
 use lib.ListN.{length, length-set}
 use Rattle.segment.proofs.Writes.{pasted}
-use Rattle.insert.proofs.Placing.{new-length, part-full, counted-of, half-of, count-of, old-kept, fresh-inside, split-is}
+use Rattle.insert.proofs.Placing.{new-length, part-full, counted-of, half-of, count-of, old-kept, fresh-inside, split-is, half-is, spot-small}
 use Rattle.insert.proofs.place.split_and_insert.Statement.{statement}
 use Rattle.insert.proofs.place.split_and_insert.Tie as tie
 
@@ -169,12 +169,22 @@ slice-write-directory c =
     let h = start-of (c .before .before .before .before .before .before .before) .pre .0 in
     omega (arith, long-at (c .before .before), h .some, h .whole)
 
+cast-half-position : tie.Need-cast-half-position
+cast-half-position c =
+    let h = start-of (c .before .before .before .before .before .before .before) .pre .0 in
+    omega (arith, h .whole, h .few)
+
+half-position-requires : tie.Need-half-position-requires
+half-position-requires c κs =
+    let s = start-of (c .before .before .before .before .before .before .before) in
+    spot-small (now (s .args .directory)) (s .args .spot) (s .args .new .length) (s .pre .0) (s .pre .1)
+
 same-length : tie.Need-same-length
-same-length c = rw length-set (long-at (c .before .before))
+same-length c = rw length-set (long-at (c .before .before .before))
 
 returns : tie.Need-returns
 returns c =
-    let d = c .before .before .before .before .before .before .before in
+    let d = c .before .before .before .before .before .before .before .before in
     let ck = d .before .before .before .before .before in
     let ce = ck .before .before .before .before .before .before in
     let cw = ce .before in
@@ -186,8 +196,11 @@ returns c =
     let o = d .before .before .before .before .old-segment in
     let f = d .before .before .before .fresh-segment in
     let x = d .copy-words in
-    let y = c .before .before .copy-words2 in
-    split-is (a .new) (h .0) w e (h .1) (k .result) _ _ _ _ (k .ensures) (o .ensures) (f .ensures) (x .ensures) (y .ensures)
+    let y = c .before .before .before .copy-words2 in
+    record {
+      position = c .half-position .ensures ∙ half-is (a .new) (h .0) w e (h .1) (k .result) (k .ensures);
+      words = split-is (a .new) (h .0) w e (h .1) (k .result) _ _ _ _ (k .ensures) (o .ensures) (f .ensures) (x .ensures) (y .ensures);
+    }
 
 pub split-and-insert-spec : {M : Type 1} → statement M
 split-and-insert-spec =
@@ -218,5 +231,7 @@ split-and-insert-spec =
     mul-copy-words
     copy-words-requires-2
     slice-write-directory
+    cast-half-position
+    half-position-requires
     same-length
     returns)
