@@ -1,16 +1,27 @@
-"""Writes case files (docs/CASES.md) and the lines that a right program writes for them, by the rules of rt11.py. There is nothing to run
-here: cases.py and what it uses do.
+"""Writes case files (docs/CASES.md) and the lines that a right program writes for them, by the rules of rt11.py and home.py. There is
+nothing to run here: cases.py and what it uses do.
 """
 import struct
 
+import home
 import rt11
 
-END, LOAD, FRESH, REQUEST, BATCH, CHANGE = 0, 1, 2, 3, 100, 101
+END, LOAD, FRESH, REQUEST, READ_LABEL, WRITE_LABEL, BATCH, CHANGE = 0, 1, 2, 3, 7, 8, 100, 101
 
 
 def two_words(number):
     """A number of 32 bits, low word first, in two's complement."""
     return number & 65_535, number >> 16 & 65_535
+
+
+def byte_words(text):
+    """Bytes two to a word, the first in the low byte; an odd last one is followed by a byte 0."""
+    even = text + b"\0" * (len(text) % 2)
+    return struct.unpack(f"<{len(even) // 2}H", even)
+
+
+def counted(text):
+    return [*two_words(len(text)), *byte_words(text)]
 
 
 def request_words(request):
@@ -61,6 +72,19 @@ class CaseFile:
         self.lines += [f"batch {number} {rt11.check(self.words)}", *map(rt11.numbers_of, answers)]
         return number, answers
 
+    def read_label(self, block):
+        self.records += [READ_LABEL, *counted(block)]
+        label = home.read_label(block)
+        self.lines.append(f"label {label.number}" if label.number else f"label 0 {home.shown_label(label)}")
+        return label
+
+    def write_label(self, block, name, owner):
+        """Answers the number, and the block afterwards."""
+        self.records += [WRITE_LABEL, *counted(block), *byte_words(name), *byte_words(owner)]
+        number, after = home.write_label(block, name, owner)
+        self.lines.append(f"mark {number} {rt11.check(after)}")
+        return number, after
+
     def end(self):
         self.records.append(END)
 
@@ -100,6 +124,13 @@ class Reader:
         number = self.long()
         return number - 2**32 if number >= 2**31 else number
 
+    def bytes(self, count):
+        words = self.take((count + 1) // 2)
+        return struct.pack(f"<{len(words)}H", *words)[:count]
+
+    def block(self):
+        return self.bytes(self.long())
+
     def request(self):
         op, name, new_name = self.word(), self.take(3), self.take(3)
         job, channel = self.take(2)
@@ -115,6 +146,10 @@ def run_record(case, kind, reader):
         case.fresh(reader.word())
     elif kind == REQUEST:
         case.serve(reader.request())
+    elif kind == READ_LABEL:
+        case.read_label(reader.block())
+    elif kind == WRITE_LABEL:
+        case.write_label(reader.block(), reader.bytes(12), reader.bytes(12))
     elif kind == BATCH:
         room, count = reader.take(2)
         case.batch([reader.request() for _ in range(count)], room)

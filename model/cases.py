@@ -1,12 +1,13 @@
 #!/usr/bin/env python3
 """The case file that crates/conformance is held to, and its lines (docs/CASES.md).
 
-    python3 model/cases.py OUTSIDE.cases OUTSIDE.expected   writes crates/conformance/stdin and stdout: the outside file, then our own part
-    python3 model/cases.py --check                          tells whether both parts are what the model gives today
-    python3 model/cases.py --run FILE                       prints the lines that the model gives for a case file
+    python3 model/cases.py A.cases A.expected [B.cases B.expected ..]   writes crates/conformance/stdin and stdout
+    python3 model/cases.py --check                                      tells whether they are what the model gives today
+    python3 model/cases.py --run FILE                                   prints the lines that the model gives for a case file
 
-Our own part is the bench examples, the evening's batches, the channels, the ages, the bad areas, the protected files, the places, the trials and
-one seed of random requests. Its lines come from the model alone.
+stdin is the outside part, the named files in this order, and then our own part: the bench examples, the evening's batches, the channels, the
+ages, the bad areas, the protected files, the places, the labels, the trials and one seed of random requests. Its lines come from the model
+alone.
 """
 import itertools
 import pathlib
@@ -19,6 +20,7 @@ import casefile
 import channels
 import evening
 import guards
+import labels
 import places
 import requests
 import trials
@@ -38,18 +40,19 @@ def own_part():
     bads.add(case)
     guards.add(case)
     places.add(case)
+    labels.add(case)
     trials.add(case)
     requests.add(case, SEED, DIRECTORIES)
     case.end()
     return case
 
 
-def write(cases_path, expected_path):
-    """The outside file's last word, where it is 0, is its end record, and is left out."""
+def write(paths):
+    """The paths are in turn a case file's and its lines'. A file's last word, where it is 0, is its end record, and is left out."""
+    files = [pathlib.Path(path).read_bytes() for path in paths]
     case = own_part()
-    outside, lines = pathlib.Path(cases_path).read_bytes(), pathlib.Path(expected_path).read_bytes()
-    STDIN.write_bytes(outside.removesuffix(END_RECORD) + case.record_bytes())
-    STDOUT.write_bytes(lines + case.line_bytes())
+    STDIN.write_bytes(b"".join(records.removesuffix(END_RECORD) for records in files[::2]) + case.record_bytes())
+    STDOUT.write_bytes(b"".join(files[1::2]) + case.line_bytes())
 
 
 def first_difference(stored, lines):
@@ -87,8 +90,8 @@ def main():
         check()
     elif len(arguments) == 2 and arguments[0] == "--run":
         sys.stdout.buffer.write(casefile.run(pathlib.Path(arguments[1]).read_bytes()).line_bytes())
-    elif len(arguments) == 2:
-        write(*arguments)
+    elif arguments and len(arguments) % 2 == 0:
+        write(arguments)
     else:
         sys.exit(__doc__)
 

@@ -2,12 +2,14 @@
 sentence of a document, as far as that goes.
 
 A directory is a list of words, and V a number. A request answers a pair: its answer, and the words afterwards. The rules of names and dates
-are in names.py. There is nothing to run here: cases.py and requests.py make case files by these rules, sample.py a head file.
+are in names.py, those of block 1 in home.py. There is nothing to run here: cases.py and requests.py make case files by these rules, sample.py
+head files.
 """
 import itertools
 import struct
 from typing import NamedTuple
 
+from home import read_label, shown_label
 from names import LAST_WORD, day_of_word, is_good_date, is_legal_name, text_of_words, words_of_text
 
 # The statuses, and the kind of entry that each is; the letter is the listing's.
@@ -549,7 +551,7 @@ def batch(words, v, requests, room):
 
 
 def check(words):
-    """The check of a case file's lines, over all words in order."""
+    """The check of a case file's lines, over all words in order, or over bytes in their place."""
     a, b = 1, 0
     for word in words:
         a = (a + word) % 65_521
@@ -559,18 +561,32 @@ def check(words):
 
 # -- The listing --
 
-MARK, VERSION = b"RVH", 1
-SHORTEST_FILE, LONGEST_FILE = 7, 31_751
+MARK = b"RVH"
+PLAIN, WITH_HOME = 1, 2  # the versions; the second is document 02's, Req 01
+SIZES = {PLAIN: (7, 31_751), WITH_HOME: (519, 32_263)}  # from the smallest to the largest; the directory has an even count of bytes
 
 
-def head_file(words, v):
-    """The mark, the version and V, then the directory; all low byte first."""
-    return MARK + struct.pack(f"<{2 + len(words)}H", VERSION, v, *words)
+def head_file(words, v, home=None):
+    """The mark, the version and V, in version 2 the 512 bytes of block 1, then the directory; all low byte first."""
+    version = PLAIN if home is None else WITH_HOME
+    return MARK + struct.pack("<2H", version, v) + (home or b"") + struct.pack(f"<{len(words)}H", *words)
 
 
-def is_head_file(file):
-    good_length = SHORTEST_FILE <= len(file) <= LONGEST_FILE and len(file) % 2 == SHORTEST_FILE % 2
-    return good_length and file[:5] == MARK + struct.pack("<H", VERSION)
+def is_head_file(file, version):
+    smallest, largest = SIZES[version]
+    good_length = smallest <= len(file) <= largest and len(file) % 2 == smallest % 2
+    return good_length and file[:5] == MARK + struct.pack("<H", version)
+
+
+def version_of(file):
+    """None where it is no head file."""
+    return next((version for version in SIZES if is_head_file(file, version)), None)
+
+
+def unpacked(file, version):
+    """Block 1, which version 1 does not have, the directory, and V."""
+    v, *words = struct.unpack(f"<{(len(file) - 5) // 2}H", file[5:])
+    return (None, words, v) if version == PLAIN else (file[7:519], words[256:], v)
 
 
 def shown_date(entry):
@@ -595,11 +611,23 @@ def listed(words, v):
     return [head, *map(shown, rows(words)), f"FILES {files} OPEN {open_files} FREE {free}"]
 
 
+def label_lines(home):
+    """The line that version 2 begins with; version 1 has none."""
+    return [] if home is None else [shown_label(read_label(home))]
+
+
+def refusal(home, words, v):
+    """25 of the label, then the directory's fault, or 0."""
+    number = 0 if home is None else read_label(home).number
+    return number or fault(words, v)
+
+
 def listing(file):
     """The listing of a head file's bytes."""
-    if not is_head_file(file):
+    version = version_of(file)
+    if version is None:
         return "REFUSED 17\n"
-    v, *words = struct.unpack(f"<{(len(file) - 5) // 2}H", file[5:])
-    number = fault(words, v)
-    lines = [f"REFUSED {number}"] if number else listed(words, v)
+    home, words, v = unpacked(file, version)
+    number = refusal(home, words, v)
+    lines = [f"REFUSED {number}"] if number else label_lines(home) + listed(words, v)
     return "".join(line + "\n" for line in lines)

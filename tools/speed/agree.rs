@@ -1,7 +1,7 @@
 //! Before anything is timed: both sides must give the same answers and leave the same words, on random requests on small volumes of all
 //! forms and on damaged directories.
 use crate::ours;
-use crate::volumes::{head_file, Random};
+use crate::volumes::{head_file, label_text, labelled_block, Random};
 use ordinary::{Answer, Name, Op, Request, FILE_BAD, ROOM};
 
 /// How many requests a volume gets.
@@ -57,11 +57,43 @@ fn request(random: &mut Random) -> Request {
     }
 }
 
-fn same_listing(d: &[u16], v: usize, rooms: &mut [Box<[u8; ROOM]>; 2]) {
-    let file = head_file(d, v as u16);
-    let lengths = (ours::listing(&file, &mut rooms[0]), ordinary::listing(&file, &mut rooms[1]));
-    assert_eq!(lengths.0, lengths.1, "the listings differ in length");
-    assert!(rooms[0][..] == rooms[1][..], "the listings differ");
+/// Room for both sides' listings, and chance for the labels, which have no part in that of the requests.
+struct Listings {
+    rooms: [Box<[u8; ROOM]>; 2],
+    chance: Random,
+}
+
+/// With a label, a bad one or none, and without a block for it; one byte more at times.
+fn same_listing(d: &[u16], v: usize, Listings { rooms, chance }: &mut Listings) {
+    let block = some_block(chance);
+    for home in [None, Some(&block[..])] {
+        let mut file = head_file(d, v as u16, home);
+        file.extend((chance.below(20) == 0).then_some(0));
+        let lengths = (ours::listing(&file, &mut rooms[0]), ordinary::listing(&file, &mut rooms[1]));
+        assert_eq!(lengths.0, lengths.1, "the listings differ in length");
+        assert!(rooms[0][..] == rooms[1][..], "the listings differ");
+    }
+}
+
+/// A block with a label; at times with a byte of name, owner or mark changed.
+fn some_block(random: &mut Random) -> Vec<u8> {
+    let mut block = labelled_block(random);
+    if random.below(3) == 0 {
+        block[472 + random.below(36)] = random.below(256) as u8;
+    }
+    block
+}
+
+/// Labels read and written, in blocks that may be of another size.
+fn same_labels(random: &mut Random) {
+    let block = &some_block(random)[(random.below(20) == 0) as usize..];
+    let (number, _, name, owner) = ordinary::read_label(block);
+    assert_eq!(ours::read_label(block), (number, name, owner), "the labels differ");
+    let (mut text, owner) = (label_text(random), label_text(random));
+    text[random.below(12)] = random.below(256) as u8;
+    let (mut b, mut c) = (block.to_vec(), block.to_vec());
+    assert_eq!(ours::write_label(&mut b, &text, &owner), ordinary::write_label(&mut c, &text, &owner), "the writers differ");
+    assert!(b == c, "the blocks differ");
 }
 
 /// A few words changed, to what may or may not be a fault; or status and name of one slot copied to another.
@@ -88,14 +120,14 @@ fn damage(d: &[u16], random: &mut Random) -> Vec<u16> {
     e
 }
 
-fn same_faults(d: &[u16], v: usize, random: &mut Random, rooms: &mut [Box<[u8; ROOM]>; 2], seen: &mut [usize; 7]) {
+fn same_faults(d: &[u16], v: usize, random: &mut Random, listings: &mut Listings, seen: &mut [usize; 7]) {
     let e = damage(d, random);
     let u = if random.below(8) == 0 { random.below(70000) } else { v };
     let part = &e[..e.len() - (random.below(30) == 0) as usize];
     let number = ours::fault(part, u);
     assert_eq!(number, ordinary::fault(part, u), "the faults differ");
     seen[number as usize] += 1;
-    same_listing(&e, v, rooms);
+    same_listing(&e, v, listings);
 }
 
 /// The place of an entry of a sound directory that is a file or open, if chance comes upon one.
@@ -117,7 +149,7 @@ fn made_bad(d: &mut [u16], e: &mut [u16], random: &mut Random) {
 }
 
 /// One volume, started afresh, and some hundred requests. Answers its segments in use.
-fn same_volume(random: &mut Random, rooms: &mut [Box<[u8; ROOM]>; 2], seen: &mut [usize; 21], faults: &mut [usize; 7]) -> u16 {
+fn same_volume(random: &mut Random, listings: &mut Listings, seen: &mut [usize; 21], faults: &mut [usize; 7]) -> u16 {
     let (n, extra) = (1 + random.below(5), [0, 0, 1, 10, 16][random.below(5)]);
     let span = [20, 200, 3000][random.below(3)];
     let v = 6 + 2 * n + random.below(span);
@@ -134,10 +166,11 @@ fn same_volume(random: &mut Random, rooms: &mut [Box<[u8; ROOM]>; 2], seen: &mut
             made_bad(&mut d, &mut e, random);
         }
         if random.below(8) == 0 {
-            same_faults(&d, v, random, rooms, faults);
+            same_faults(&d, v, random, listings, faults);
         }
     }
-    same_listing(&d, v, rooms);
+    same_listing(&d, v, listings);
+    (0..40).for_each(|_| same_labels(&mut listings.chance));
     same_batch(&mut d, v, random);
     d[2]
 }
@@ -156,13 +189,18 @@ fn same_batch(d: &mut [u16], v: usize, random: &mut Random) {
 /// Panics where the two sides differ. Says how often each number was answered.
 pub fn agree(volumes: usize) {
     let mut random = Random(1976);
-    let mut rooms = [Box::new([b'#'; ROOM]), Box::new([b'#'; ROOM])];
+    let rooms = [Box::new([b'#'; ROOM]), Box::new([b'#'; ROOM])];
+    let mut listings = Listings { rooms, chance: Random(1) };
     let (mut seen, mut faults, mut splits) = ([0; 21], [0; 7], 0);
     for _ in 0..volumes {
-        splits += same_volume(&mut random, &mut rooms, &mut seen, &mut faults) as usize - 1;
+        splits += same_volume(&mut random, &mut listings, &mut seen, &mut faults) as usize - 1;
     }
     let damaged: usize = faults.iter().sum();
-    println!("The same answers and words: {} random requests, {splits} splits, {damaged} damaged directories.", REQUESTS * volumes);
+    println!(
+        "The same answers and words: {} random requests, {splits} splits, {damaged} damaged directories, {} labels.",
+        REQUESTS * volumes,
+        40 * volumes
+    );
     assert!(faults[1..].iter().all(|&k| k > 0), "a fault was never met: {faults:?}");
     assert!([0, 7, 8, 9, 10, 11, 12, 13, 14, 15, 16, 19, 20].iter().all(|&k| seen[k] > 0), "a number was never answered: {seen:?}");
 }

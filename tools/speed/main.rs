@@ -157,14 +157,28 @@ fn time_batch(random: &mut Random) {
     });
 }
 
-fn time_listing(random: &mut Random) {
+fn time_listing(labelled: bool, random: &mut Random) {
     let made = |_| {
         let volume = volumes::full(31, &volumes::names(Names::Shuffled, 2201, random), false);
-        volumes::head_file(&volume.words, volume.v as u16)
+        let block = labelled.then(|| volumes::labelled_block(random));
+        volumes::head_file(&volume.words, volume.v as u16, block.as_deref())
     };
     let files: Vec<Vec<u8>> = (0..4).map(made).collect();
     let rooms = vec![Box::new([b'#'; ROOM]); 4];
-    compare("listing, 31 full", &rooms, |out, k| ours::listing(&files[k], out), |out, k| ordinary::listing(&files[k], out));
+    let case = if labelled { "listing, 31 full, with a label" } else { "listing, 31 full" };
+    compare(case, &rooms, |out, k| ours::listing(&files[k], out), |out, k| ordinary::listing(&files[k], out));
+}
+
+fn time_label(random: &mut Random) {
+    let blocks: Vec<Vec<u8>> = (0..64).map(|_| volumes::labelled_block(random)).collect();
+    let texts: Vec<[[u8; 12]; 2]> = (0..64).map(|_| [volumes::label_text(random), volumes::label_text(random)]).collect();
+    let plainly = |block: &mut Vec<u8>, _: usize| {
+        let (number, _, name, owner) = ordinary::read_label(block);
+        (number, name, owner)
+    };
+    compare("label read", &blocks, |block, _| ours::read_label(block), plainly);
+    let ours = |block: &mut Vec<u8>, k: usize| ours::write_label(block, &texts[k][0], &texts[k][1]);
+    compare("label written", &blocks, ours, |block, k| ordinary::write_label(block, &texts[k][0], &texts[k][1]));
 }
 
 fn main() {
@@ -180,6 +194,7 @@ fn main() {
     [1, 4, 31].into_iter().for_each(time_fresh);
     time_others(&mut random);
     time_batch(&mut random);
-    time_listing(&mut random);
+    [false, true].into_iter().for_each(|labelled| time_listing(labelled, &mut random));
+    time_label(&mut random);
     println!("\nMicroseconds for one call; {} s in all.", start.elapsed().as_secs());
 }

@@ -14,6 +14,8 @@ extern "C" {
     fn our_close(d: *mut u16, len: usize, v: usize, job: u16, channel: u16, n: i32, out: &mut Answer);
     fn our_abandon(d: *mut u16, len: usize, v: usize, job: u16, channel: u16, out: &mut Answer);
     fn our_listing(file: *const u8, len: usize, out: *mut u8) -> usize;
+    fn our_read_label(block: *const u8, len: usize, name: &mut [u8; 12], owner: &mut [u8; 12]) -> u32;
+    fn our_write_label(block: *mut u8, len: usize, name: &[u8; 12], owner: &[u8; 12]) -> u32;
     // Not exported, since it takes records: called as the proved code calls it, where a slice goes as a pointer to both.
     #[link_name = "batch::run"]
     fn our_batch(d: &Lent<u16>, v: usize, requests: &Lent<Request>, answers: &Lent<Answer>) -> u32;
@@ -75,6 +77,17 @@ pub fn abandon(d: &mut [u16], v: usize, job: u16, channel: u16) -> Answer {
 
 pub fn listing(file: &[u8], out: &mut [u8; ROOM]) -> usize {
     unsafe { our_listing(file.as_ptr(), file.len(), out.as_mut_ptr()) }
+}
+
+/// Number, name and owner.
+pub fn read_label(block: &[u8]) -> (u16, [u8; 12], [u8; 12]) {
+    let (mut name, mut owner) = ([0; 12], [0; 12]);
+    let number = unsafe { our_read_label(block.as_ptr(), block.len(), &mut name, &mut owner) as u16 };
+    (number, name, owner)
+}
+
+pub fn write_label(block: &mut [u8], name: &[u8; 12], owner: &[u8; 12]) -> u16 {
+    unsafe { our_write_label(block.as_mut_ptr(), block.len(), name, owner) as u16 }
 }
 
 pub fn run(d: &mut [u16], v: usize, requests: &[Request], answers: &mut [Answer]) -> u16 {

@@ -195,7 +195,24 @@ pub fn batch(volume: &Volume, names: &[Name], count: usize, random: &mut Random)
 }
 
 /// A head file.
-pub fn head_file(d: &[u16], v: u16) -> Vec<u8> {
-    let words = [1, v].into_iter().chain(d.iter().copied());
-    b"RVH".iter().copied().chain(words.flat_map(u16::to_le_bytes)).collect()
+/// A head file: of version 2 where there is a block 1 for it.
+pub fn head_file(d: &[u16], v: u16, block: Option<&[u8]>) -> Vec<u8> {
+    let version = 1 + block.is_some() as u16;
+    let mut file = b"RVH".to_vec();
+    file.extend([version, v].into_iter().flat_map(u16::to_le_bytes));
+    file.extend_from_slice(block.unwrap_or(&[]));
+    file.extend(d.iter().copied().flat_map(u16::to_le_bytes));
+    file
+}
+
+/// Any bytes, with a label and the mark written over them.
+pub fn labelled_block(random: &mut Random) -> Vec<u8> {
+    let mut block: Vec<u8> = (0..512).map(|_| random.below(256) as u8).collect();
+    let (name, owner) = (label_text(random), label_text(random));
+    assert_eq!(ordinary::write_label(&mut block, &name, &owner), 0);
+    block
+}
+
+pub fn label_text(random: &mut Random) -> [u8; 12] {
+    std::array::from_fn(|_| 32 + random.below(95) as u8)
 }

@@ -1,17 +1,16 @@
 // Type 100: a batch.
-use crate::complaints::Why;
-use crate::input::is_request;
-use crate::input::read_bytes;
-use crate::input::request_at;
-use crate::input::word_at;
-use crate::output::check_of;
-use crate::output::numbers_of;
-use crate::output::write_line;
-use crate::state::State;
-use crate::state::passed;
-use crate::state::refused;
 use batch::Part;
 use batch::run_some;
+use cases::Why;
+use cases::input::is_request;
+use cases::input::read_bytes;
+use cases::input::request_at;
+use cases::input::word_at;
+use cases::output::check_of;
+use cases::output::numbers_of;
+use cases::output::write_line;
+use cases::state::State;
+use cases::state::refused;
 use meaning::Answer;
 use meaning::Request;
 ghost use mathlib.Core.Path.{_≡_};
@@ -21,7 +20,7 @@ ghost use lib.ListN.{length};
 // Room for eight requests of 28 bytes.
 const ROOM: usize = 224;
 
-// Ends the run at the first request that is none of the six, unless it has ended already.
+// Ends the run at the first request that is none of those that there are, unless it has ended already.
 fn known(bytes: &[u8], state: State, count: usize) -> State
     requires { ⌜ (length (now bytes) ≡ 224) × (state .words ≤ 15872) × (count ≤ 8) ⌝ }
     ensures { λ r. ⌜ r .words ≤ 15872 ⌝ }
@@ -33,7 +32,7 @@ fn known(bytes: &[u8], state: State, count: usize) -> State
     while i < count {
         let number = word_at(bytes, 28 * i);
         if !is_request(number) {
-            return refused(Why::Request, number, state, 28 * (count - i));
+            return refused(Why::Request, number as u32, state, 28 * (count - i));
         }
         i += 1;
     }
@@ -61,39 +60,44 @@ fn no_answers() -> [Answer; 8] {
 }
 
 // One answer of a batch, without a check.
-fn write_one(answer: Answer) -> bool {
+fn write_one(state: State, answer: Answer) -> State
+    requires { ⌜ state .words ≤ 15872 ⌝ }
+    ensures { λ r. ⌜ r .words ≤ 15872 ⌝ }
+{
     let numbers = numbers_of(answer, 0);
     let line = &numbers[..];
-    write_line(b"", &line[0..6])
+    write_line(state, b"", &line[0..6])
 }
 
 // The first answers of a batch, so many.
-fn write_answers(answers: [Answer; 8], count: usize) -> bool
-    requires { ⌜ count ≤ 8 ⌝ }
+fn write_answers(start: State, answers: [Answer; 8], count: usize) -> State
+    requires { ⌜ (start .words ≤ 15872) × (count ≤ 8) ⌝ }
+    ensures { λ r. ⌜ r .words ≤ 15872 ⌝ }
 {
+    let mut state = start;
     let mut i = 0;
     while i < count {
-        if !write_one(answers[i]) {
-            return false;
+        if !state.going {
+            return state;
         }
+        state = write_one(state, answers[i]);
         i += 1;
     }
-    true
+    state
 }
 
 // A batch's number and the check over the directory as it now stands; its answers, where the number is 0.
-fn write_batch(words: &[u16], part: Part, count: usize) -> bool
-    requires { ⌜ count ≤ 8 ⌝ }
+fn write_batch(words: &[u16], state: State, part: Part, count: usize) -> State
+    requires { ⌜ (state .words ≤ 15872) × (count ≤ 8) ⌝ }
+    ensures { λ r. ⌜ r .words ≤ 15872 ⌝ }
 {
-    let check = check_of(words);
-    if !write_line(b"batch", &[part.number as u64, check]) {
-        return false;
-    }
+    let numbers = [part.number as u64, check_of(words)];
+    let next = write_line(state, b"batch", &numbers);
     if part.number != 0 {
-        return true;
+        return next;
     }
     let answers = part.answers;
-    write_answers(answers, count)
+    write_answers(next, answers, count)
 }
 
 // The batch on the present directory, and its lines.
@@ -110,7 +114,7 @@ fn serve_batch(d: &mut [u16], state: State, bytes: &[u8], count: usize, room: us
         no_answers(),
         room,
     );
-    passed(state, 0, write_batch(&d[0..n], part, count))
+    write_batch(&d[0..n], state, part, count)
 }
 
 // So many requests, with room for so many answers.
@@ -135,11 +139,11 @@ pub(crate) fn take_batch(d: &mut [u16], state: State, head: &[u8]) -> State
 {
     let room = word_at(head, 2);
     if room > 8 {
-        return refused(Why::Room, room, state, 4);
+        return refused(Why::Room, room as u32, state, 4);
     }
     let count = word_at(head, 4);
     if count > 8 {
-        return refused(Why::Requests, count, state, 2);
+        return refused(Why::Requests, count as u32, state, 2);
     }
     take_requests(d, state, count as usize, room as usize)
 }

@@ -1,10 +1,10 @@
 // Type 101: some words of the present directory changed.
-use crate::complaints::Why;
-use crate::input::read_bytes;
-use crate::input::word_at;
 use crate::records::write_fault;
-use crate::state::State;
-use crate::state::refused;
+use cases::Why;
+use cases::input::read_bytes;
+use cases::input::word_at;
+use cases::state::State;
+use cases::state::refused;
 ghost use mathlib.Core.Path.{_≡_};
 ghost use Prim.Native.Nat.{_≤_};
 ghost use lib.ListN.{length};
@@ -22,7 +22,7 @@ fn change_word(d: &mut [u16], state: State) -> State
     let place = word_at(&pair, 0);
     let at = place as usize;
     if at >= next.words {
-        return refused(Why::Place, place, next, 4);
+        return refused(Why::Place, place as u32, next, 4);
     }
     d[at] = word_at(&pair, 2);
     next

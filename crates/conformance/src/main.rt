@@ -3,18 +3,14 @@
 // length. What can't be understood stops the run, with one line on standard error that says what it was and at which byte.
 mod batches;
 mod changes;
-mod complaints;
-mod input;
-mod output;
 mod records;
-mod state;
 
-use crate::complaints::Why;
-use crate::input::read_bytes;
-use crate::input::word_at;
-use crate::state::State;
-use crate::state::refused;
-use crate::state::stopped;
+use cases::Why;
+use cases::input::read_bytes;
+use cases::input::word_at;
+use cases::state::State;
+use cases::state::refused;
+use cases::state::stopped;
 ghost use mathlib.Core.Path.{_≡_};
 ghost use Prim.Native.Nat.{_≤_};
 ghost use lib.ListN.{length};
@@ -27,7 +23,7 @@ fn head_bytes(number: u16) -> usize
         1 => 6,
         2 => 2,
         3 => 28,
-        100 => 4,
+        7 | 8 | 100 => 4,
         101 => 2,
         _ => 0,
     }
@@ -46,20 +42,41 @@ fn read_head(head: &mut [u8], state: State) -> State
     read_bytes(&mut head[2..2 + n], next, false)
 }
 
-// What the type asks for.
-fn take_kind(d: &mut [u16], state: State, head: &[u8]) -> State
+// What the types of our own ask for: those from 100 on.
+fn take_own(d: &mut [u16], state: State, head: &[u8]) -> State
     requires { ⌜ (length (now d) ≡ 15872) × (state .words ≤ 15872) × (length (now head) ≡ 30) ⌝ }
     ensures { λ r. ⌜ r .words ≤ 15872 ⌝ }
 {
     let number = word_at(head, 0);
     match number {
+        100 => batches::take_batch(d, state, head),
+        101 => changes::take_changes(d, state, head),
+        _ => refused(Why::Type, number as u32, state, 2),
+    }
+}
+
+// What the types ask for that came from outside after the first four: a label read or written.
+fn take_later(d: &mut [u16], state: State, head: &[u8]) -> State
+    requires { ⌜ (length (now d) ≡ 15872) × (state .words ≤ 15872) × (length (now head) ≡ 30) ⌝ }
+    ensures { λ r. ⌜ r .words ≤ 15872 ⌝ }
+{
+    match word_at(head, 0) {
+        7 | 8 => labelcases::take_block(state, head),
+        _ => take_own(d, state, head),
+    }
+}
+
+// What the type asks for.
+fn take_kind(d: &mut [u16], state: State, head: &[u8]) -> State
+    requires { ⌜ (length (now d) ≡ 15872) × (state .words ≤ 15872) × (length (now head) ≡ 30) ⌝ }
+    ensures { λ r. ⌜ r .words ≤ 15872 ⌝ }
+{
+    match word_at(head, 0) {
         0 => stopped(),
         1 => records::take_directory(d, state, head),
         2 => records::start_fresh(d, state, head),
         3 => records::take_request(d, state, head),
-        100 => batches::take_batch(d, state, head),
-        101 => changes::take_changes(d, state, head),
-        _ => refused(Why::Type, number, state, 2),
+        _ => take_later(d, state, head),
     }
 }
 

@@ -1,16 +1,15 @@
 // Types 1 to 3: a directory, a fresh start, a request. A head is a record's type and the words that stand behind every record of its type.
-use crate::complaints::Why;
-use crate::input::is_request;
-use crate::input::long_at;
-use crate::input::read_words;
-use crate::input::request_at;
-use crate::input::word_at;
-use crate::output::check_of;
-use crate::output::numbers_of;
-use crate::output::write_line;
-use crate::state::State;
-use crate::state::passed;
-use crate::state::refused;
+use cases::Why;
+use cases::input::is_request;
+use cases::input::long_at;
+use cases::input::read_words;
+use cases::input::request_at;
+use cases::input::word_at;
+use cases::output::check_of;
+use cases::output::numbers_of;
+use cases::output::write_line;
+use cases::state::State;
+use cases::state::refused;
 use door::fault;
 use door::fresh;
 use door::serve;
@@ -32,7 +31,7 @@ pub(crate) fn write_fault(d: &[u16], state: State) -> State
     }
     let n = state.words;
     let number = fault(&d[0..n], state.blocks);
-    passed(state, 0, write_line(b"fault", &[number as u64]))
+    write_line(state, b"fault", &[number as u64])
 }
 
 // Type 1: V in two words, and a count of words, which become the present directory.
@@ -43,7 +42,7 @@ pub(crate) fn take_directory(d: &mut [u16], state: State, head: &[u8]) -> State
     let count = word_at(head, 6);
     let n = count as usize;
     if n > WORDS {
-        return refused(Why::Words, count, state, 2);
+        return refused(Why::Words, count as u32, state, 2);
     }
     let new = State {
         going: true,
@@ -62,7 +61,7 @@ fn write_answer(d: &[u16], state: State, answer: Answer) -> State
 {
     let n = state.words;
     let numbers = numbers_of(answer, check_of(&d[0..n]));
-    passed(state, 0, write_line(b"", &numbers))
+    write_line(state, b"", &numbers)
 }
 
 // Type 2: a fresh start over the present words, with so many extra words to an entry.
@@ -82,7 +81,7 @@ pub(crate) fn take_request(d: &mut [u16], state: State, head: &[u8]) -> State
 {
     let number = word_at(head, 2);
     if !is_request(number) {
-        return refused(Why::Request, number, state, 28);
+        return refused(Why::Request, number as u32, state, 28);
     }
     let n = state.words;
     let answer = serve(&mut d[0..n], state.blocks, request_at(head, 2));

@@ -1,6 +1,6 @@
 -- Lines and rows of the listing by the numbers and words that they show, where the meaning takes them from a directory.
 use Prim.Native.Nat.{ℕ}
-use mathlib.Core.Bool.{cond}
+use mathlib.Core.Bool.{Bool, cond}
 use mathlib.Core.List.{List, _++_}
 use lib.ListN.{take, drop}
 use Rattle.names.specs.Text.{bytes}
@@ -51,3 +51,7 @@ totalBy files opened free =
     ++ bytes " FREE "
     ++ decimal free
     ++ bytes "\n"
+
+unfoldable pub labelBy : Bool → List ℕ → List ℕ → List ℕ
+labelBy labelled name owner =
+    cond labelled (bytes "LABEL " ++ name ++ bytes " " ++ owner ++ bytes "\n") (bytes "UNLABELLED\n")

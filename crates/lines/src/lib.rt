@@ -3,12 +3,12 @@
 use meaning::Kind;
 ghost use mathlib.Core.Path.{_≡_};
 ghost use Prim.Native.Nat.{_+_, _≤_, _<_};
-ghost use mathlib.Core.List.{_++_};
+ghost use mathlib.Core.List.{[], _∷_, _++_};
 ghost use lib.ListN.{length};
 ghost use Rattle.meaning.specs.Kinds.{isEmpty};
 ghost use Rattle.meaning.specs.Listing.{decimal, sixWide, twoDigits, dateText, letter, refusedLine};
 ghost use Rattle.lines.specs.Wrote.{Wrote, WroteAtMost};
-ghost use Rattle.lines.specs.Pieces.{dotted, nameBy, rowStart, rowDate, rowEnd, rowBy, headBy, totalBy};
+ghost use Rattle.lines.specs.Pieces.{dotted, nameBy, rowStart, rowDate, rowEnd, rowBy, headBy, totalBy, labelBy};
 ghost use Rattle.lines.specs.Bounds.{Spelled};
 
 // Any bytes, as they are.
@@ -227,6 +227,35 @@ pub fn total_line(out: &mut [u8], at: usize, files: usize, opened: usize, free: 
     next = captioned(out, next, b" FREE ", free);
     out[next] = b'\n';
     next + 1
+}
+
+// Any bytes, and one after them.
+fn put_ended(out: &mut [u8], at: usize, text: &[u8], end: u8) -> usize
+    requires { ⌜ at + (length (now text) + 1) ≤ length (now out) ⌝ }
+    ensures { λ r. ⌜ WroteAtMost (length (now (text .entry)) + 1) (now (out .entry)) at (now (text .entry) ++ (end ∷ [])) (now (out .exit)) r ⌝ }
+{
+    let next = put_bytes(out, at, text);
+    out[next] = end;
+    next + 1
+}
+
+// The line of a label: name and owner as they are, with the blanks at their ends; or that there is none.
+pub fn label_line(
+    out: &mut [u8],
+    at: usize,
+    labelled: bool,
+    name: [u8; 12],
+    owner: [u8; 12],
+) -> usize
+    requires { ⌜ at + 32 ≤ length (now out) ⌝ }
+    ensures { λ r. ⌜ WroteAtMost 32 (now (out .entry)) at (labelBy labelled name owner) (now (out .exit)) r ⌝ }
+{
+    if !labelled {
+        return put_bytes(out, at, b"UNLABELLED\n");
+    }
+    let mut next = put_bytes(out, at, b"LABEL ");
+    next = put_ended(out, next, &name, b' ');
+    put_ended(out, next, &owner, b'\n')
 }
 
 // The one line of a refusal.

@@ -8,7 +8,7 @@ ghost use Prim.Native.Nat.{_≤_};
 ghost use lib.ListN.{length};
 
 // One byte more than a good head file has at most, so that a longer one is seen to be too long.
-const MOST: usize = 31752;
+const MOST: usize = 32264;
 
 fn write_start(out: &[u8; ROOM], n: usize)
     requires { ⌜ n ≤ length (now out) ⌝ }

@@ -1,6 +1,5 @@
 pub mod Marks
 pub mod Loaded
-pub mod Sums
-pub mod Shows
 pub mod Whole
+pub mod Second
 pub mod Determined

@@ -7,7 +7,7 @@ use native.Mathlib.Omega.{arith}
 use native.Mathlib.Nat.{zero-add}
 use lib.ListN.{length, getD, take, drop, set, length-drop}
 use lib.Seq.{getD-drop}
-use Rattle.meaning.specs.Listing.{wordAt, wordsIn, headBytes, directoryIn}
+use Rattle.meaning.specs.Listing.{wordAt, wordsIn}
 use Rattle.lines.specs.Wrote.{Wrote}
 use Rattle.lines.proofs.Writes.{copy-none, copy-more, copy-all}
 
@@ -27,47 +27,50 @@ word-of (low ∷ high ∷ bs) (suc i) h =
     let f : suc (suc (2 * i)) + 1 ≡ suc (suc (2 * i + 1)) = omega arith in
     rw (e, f) (word-of bs i (omega arith))
 
-pub directory-long : (file : List ℕ) → length (directoryIn file) ≡ (length file - headBytes) / 2
-unfolding directoryIn
-directory-long file = words-long (drop headBytes file) ∙ ap (λ (n : ℕ). n / 2) (length-drop headBytes file)
+-- the words from byte h on
+abbrev pub wordsFrom : ℕ → List ℕ → List ℕ
+wordsFrom h file = wordsIn (drop h file)
 
-word-after : (file : List ℕ) (i : ℕ) → 2 * i + 1 < length (drop headBytes file)
-    → getD (directoryIn file) i 0 ≡ wordAt file (headBytes + 2 * i)
-unfolding directoryIn wordAt
-word-after file i h =
-    let e : headBytes + 2 * i + 1 ≡ headBytes + (2 * i + 1) = omega arith in
-    word-of (drop headBytes file) i h
-    ∙ rw (getD-drop headBytes file (2 * i) 0, getD-drop headBytes file (2 * i + 1) 0, e)
+words-from-long : (h : ℕ) (file : List ℕ) → length (wordsFrom h file) ≡ (length file - h) / 2
+words-from-long h file = words-long (drop h file) ∙ ap (λ (n : ℕ). n / 2) (length-drop h file)
 
-directory-word : (file : List ℕ) (i : ℕ) → i < length (directoryIn file)
-    → getD (directoryIn file) i 0 ≡ wordAt file (headBytes + 2 * i)
-directory-word file i h =
-    let n = directory-long file in
-    word-after file i (omega (arith, length-drop headBytes file))
+word-after : (h : ℕ) (file : List ℕ) (i : ℕ) → 2 * i + 1 < length (drop h file)
+    → getD (wordsFrom h file) i 0 ≡ wordAt file (h + 2 * i)
+unfolding wordAt
+word-after h file i b =
+    let e : h + 2 * i + 1 ≡ h + (2 * i + 1) = omega arith in
+    word-of (drop h file) i b
+    ∙ rw (getD-drop h file (2 * i) 0, getD-drop h file (2 * i + 1) 0, e)
+
+word-from : (h : ℕ) (file : List ℕ) (i : ℕ) → i < length (wordsFrom h file)
+    → getD (wordsFrom h file) i 0 ≡ wordAt file (h + 2 * i)
+word-from h file i b =
+    let n = words-from-long h file in
+    word-after h file i (omega (arith, length-drop h file))
 
 -- the loop: i of the words are loaded into b, which made it m
-pub record Loading (file b m : List ℕ) (count i : ℕ) : Type 0 where
-  pub all : count ≡ length (directoryIn file)
-  pub bytes : headBytes + 2 * count ≤ length file
+pub record Loading (h : ℕ) (file b m : List ℕ) (count i : ℕ) : Type 0 where
+  pub all : count ≡ length (wordsFrom h file)
+  pub bytes : h + 2 * count ≤ length file
   pub room : count ≤ length b
   pub some : i ≤ count
-  pub wrote : Wrote b 0 (take i (directoryIn file)) m i
+  pub wrote : Wrote b 0 (take i (wordsFrom h file)) m i
 
-pub load-none : (file b : List ℕ) → headBytes ≤ length file → length file ≤ headBytes + 2 * length b
-    → Loading file b b ((length file - headBytes) / 2) 0
-load-none file b h r = record {
-  all = sym (directory-long file);
+pub load-none : (h : ℕ) (file b : List ℕ) → h ≤ length file → length file ≤ h + 2 * length b
+    → Loading h file b b ((length file - h) / 2) 0
+load-none h file b l r = record {
+  all = sym (words-from-long h file);
   bytes = omega arith;
   room = omega arith;
   some = omega arith;
-  wrote = copy-none b (directoryIn file) 0 (omega arith);
+  wrote = copy-none b (wordsFrom h file) 0 (omega arith);
 }
 
-module _ {file b m : List ℕ} {count i : ℕ} (l : Loading file b m count i) where
-  pub load-more : {word : ℕ} → i < count → word ≡ wordAt file (headBytes + 2 * i)
-      → Loading file b (set m i word) count (i + 1)
-  load-more {word} h e =
-      let t = directoryIn file in
+module _ {h : ℕ} {file b m : List ℕ} {count i : ℕ} (l : Loading h file b m count i) where
+  pub load-more : {word : ℕ} → i < count → word ≡ wordAt file (h + 2 * i)
+      → Loading h file b (set m i word) count (i + 1)
+  load-more {word} g e =
+      let t = wordsFrom h file in
       let n : i < length t = omega (arith, l .all) in
       let w = copy-more b m t 0 i (rw (zero-add i) (l .wrote)) n (omega (arith, l .all, l .room)) in
       record {
@@ -75,11 +78,11 @@ module _ {file b m : List ℕ} {count i : ℕ} (l : Loading file b m count i) wh
         bytes = l .bytes;
         room = l .room;
         some = omega arith;
-        wrote = rw (e, ← directory-word file i n) (rw (zero-add i, zero-add (i + 1)) at w);
+        wrote = rw (e, ← word-from h file i n) (rw (zero-add i, zero-add (i + 1)) at w);
       }
 
-  pub load-all : count ≤ i → Wrote b 0 (directoryIn file) m count
-  load-all h =
+  pub load-all : count ≤ i → Wrote b 0 (wordsFrom h file) m count
+  load-all g =
       let e : i ≡ count = omega (arith, l .some) in
-      let w = copy-all b m (directoryIn file) 0 i (rw (zero-add i) (l .wrote)) (omega (arith, l .all)) (omega (arith, l .all)) in
+      let w = copy-all b m (wordsFrom h file) 0 i (rw (zero-add i) (l .wrote)) (omega (arith, l .all)) (omega (arith, l .all)) in
       rw (← e) (rw (zero-add i) at w)

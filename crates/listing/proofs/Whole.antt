@@ -6,7 +6,6 @@ use mathlib.Core.Path.{_≡_, refl, ap, _∙_}
 use mathlib.Core.Bool.{true, false}
 use mathlib.Core.List.{List}
 use native.Mathlib.Omega.{arith}
-use native.Mathlib.Nat.{zero-add}
 use lib.ListN.{length, take, drop}
 use lib.Seq.{take-at}
 use Rattle.meaning.specs.Words.{segments, highest, extraBytesOf, rows, allEntries}
@@ -16,9 +15,9 @@ use Rattle.walks.proofs.Heads.{sized, headed}
 use Rattle.walks.proofs.Unbroken.{unbroken}
 use Rattle.lines.specs.Wrote.{Wrote, WroteAtMost}
 use Rattle.lines.specs.Pieces.{headBy, totalBy}
-use Rattle.listing.specs.Rows.{TotalsOf}
+use Rattle.rows.specs.Rows.{TotalsOf}
 use Rattle.listing.specs.Listed.{Listed}
-use Rattle.listing.specs.declared.rows.Totals.{Totals}
+use Rattle.rows.specs.declared.Totals.{Totals}
 use Rattle.lines.proofs.Writes.{both}
 use Rattle.lines.proofs.Parts.{head-by, total-by}
 
@@ -44,12 +43,12 @@ head-fits v d h =
     }
 
 -- the three parts of a sound directory's listing
-pub sound-text : {b m k a : List ℕ} {x y z : ℕ} (v : ℕ) (d : List ℕ) {t : Totals}
-    → WroteAtMost 49 b 0 (headBy v (highest d) (segments d) (extraBytesOf d)) m x
+pub sound-text : {b m k a : List ℕ} {p x y z : ℕ} (v : ℕ) (d : List ℕ) {t : Totals}
+    → WroteAtMost 49 b p (headBy v (highest d) (segments d) (extraBytesOf d)) m x
     → WroteAtMost 79236 m x (rowsText (rows d)) k y
     → TotalsOf (allEntries d) t
     → WroteAtMost 34 k y (totalBy (t .files) (t .opened) (t .free)) a z
-    → WroteAtMost 79319 b 0 (soundText v d) a z
+    → WroteAtMost 79319 b p (soundText v d) a z
 unfolding soundText
 sound-text v d {t} u w s o = record {
   wrote =
@@ -80,19 +79,15 @@ loaded {b} {t} {a} {n} w =
     let e : length t ≡ n = omega (arith, w .ends) in
     ap (take n) (w .is) ∙ take-at t (drop (0 + length t) b) n e
 
--- a text that is the file's
-listed : {file b t a : List ℕ} {r : ℕ} → listing file ≡ t → Wrote b 0 t a r → Listed file b a r
-listed {file} {b} {t} {a} {r} e w =
-    record { long = rw e (omega (arith, w .ends)); text = rw e (w .is ∙ rw (zero-add (length t))) }
-
+-- version 1: the line of 17, or the listing of the words that were loaded
 pub bad-head : {b a : List ℕ} {r : ℕ} (file : List ℕ) → goodHead file ≡ false
     → WroteAtMost 14 b 0 (refusedLine 17) a r
-    → Listed file b a r
+    → WroteAtMost 79319 b 0 (listing file) a r
 unfolding listing
-bad-head file h w = listed (rw h) (w .wrote)
+bad-head file h w = rw h (record { wrote = w .wrote; short = omega (arith, w .short) })
 
 pub good-head : {b a d : List ℕ} {r v : ℕ} (file : List ℕ) → goodHead file ≡ true → v ≡ volumeIn file → d ≡ directoryIn file
     → WroteAtMost 79319 b 0 (textBy (fault v d) v d) a r
-    → Listed file b a r
+    → WroteAtMost 79319 b 0 (listing file) a r
 unfolding listing
-good-head file h e f w = listed (rw (h, ← e, ← f)) (w .wrote)
+good-head file h e f w = rw (h, ← e, ← f) w

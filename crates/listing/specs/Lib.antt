@@ -1,3 +1,3 @@
+pub mod HeadFiles
 pub mod Bounds
-pub mod Rows
 pub mod Listed

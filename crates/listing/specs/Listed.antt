@@ -4,8 +4,8 @@ use Prim.Native.Nat.{ℕ}
 use mathlib.Core.Path.{_≡_}
 use mathlib.Core.List.{List, _++_}
 use lib.ListN.{length, drop}
-use Rattle.meaning.specs.Listing.{listing}
+use Rattle.listing.specs.HeadFiles.{listingOf}
 
 pub record Listed (file before after : List ℕ) (r : ℕ) : Type 0 where
-  pub long : r ≡ length (listing file)
-  pub text : after ≡ listing file ++ drop (length (listing file)) before
+  pub long : r ≡ length (listingOf file)
+  pub text : after ≡ listingOf file ++ drop (length (listingOf file)) before

@@ -2,25 +2,8 @@
 ghost use mathlib.Core.Path.{_≡_};
 ghost use Prim.Native.Nat.{_+_, _≤_, _<_};
 ghost use lib.ListN.{length};
-ghost use Rattle.meaning.specs.Listing.{sameBytes, goodHead, headBytes};
-ghost use Rattle.listing.specs.Bounds.{WordRead, VolumeRead};
-
-// Whether two byte strings are the same; marks are compared so.
-fn same_bytes(x: &[u8], y: &[u8]) -> bool
-    ensures { λ r. ⌜ r ≡ sameBytes (now (x .entry)) (now (y .entry)) ⌝ }
-{
-    if x.len() != y.len() {
-        return false;
-    }
-    let mut i = 0;
-    while i < x.len() {
-        if x[i] != y[i] {
-            return false;
-        }
-        i += 1;
-    }
-    true
-}
+ghost use Rattle.meaning.specs.Listing.{headBytes};
+ghost use Rattle.listing.specs.Bounds.{goodHeadOf, WordRead, VolumeRead};
 
 // The word at byte k, low byte first.
 pub(crate) fn word_at(file: &[u8], k: usize) -> usize
@@ -30,23 +13,25 @@ pub(crate) fn word_at(file: &[u8], k: usize) -> usize
     file[k] as usize + 256 * (file[k + 1] as usize)
 }
 
-// Whether a file is not refused 17: its length, its mark, its version, and whole words after V.
-pub(crate) fn good_head(file: &[u8]) -> bool
-    ensures { λ r. ⌜ r ≡ goodHead (now (file .entry)) ⌝ }
+// Whether a file is a good head file of a version, whose directory begins at the byte `first`: its length, its mark, its version, and whole
+// words for the directory.
+pub(crate) fn good_head(file: &[u8], version: usize, first: usize) -> bool
+    requires { ⌜ (headBytes ≤ first) × (first ≤ 519) ⌝ }
+    ensures { λ r. ⌜ r ≡ goodHeadOf version first (now (file .entry)) ⌝ }
 {
-    if file.len() < 7 {
+    if file.len() < first {
         return false;
     }
-    if 31751 < file.len() {
+    if first + 31744 < file.len() {
         return false;
     }
-    if !same_bytes(&file[..3], b"RVH") {
+    if !names::same_bytes(&file[..3], b"RVH") {
         return false;
     }
-    if word_at(file, 3) != 1 {
+    if word_at(file, 3) != version {
         return false;
     }
-    (file.len() - 7) % 2 == 0
+    (file.len() - first) % 2 == 0
 }
 
 // V, which stands after the version.

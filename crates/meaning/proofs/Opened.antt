@@ -1,6 +1,6 @@
 -- The definitions of the meaning, module by module: a claim that opens one of these names opens all that its line names, and so can be
 -- computed. The names themselves say nothing.
-use Rattle.names.specs.Text.{bytes}
+use Rattle.names.specs.Text.{bytes, sameBytes}
 use Rattle.names.specs.Radix.{alphabet, shown, place, codeOf, packed, packedAt, spelled, textOf, inName, inText, blank}
 use Rattle.names.specs.Radix.{padded, legalText, spells, legalName, wordsOfText, textOfWords}
 use Rattle.dates.specs.Dates.{years, monthLengths, isLeap, daysIn, inCalendar, packedDay, dayField, monthField, namesDay}
@@ -20,7 +20,7 @@ use Rattle.meaning.specs.Enter.{tidiedAt, tidied, costAfter, hasRoom}
 use Rattle.meaning.specs.Enter.{areasIn, areas, eligibles, longestOf, without, secondOf, wanted, atLeast, longEnough, firstFit}
 use Rattle.meaning.specs.Enter.{endsTentative, kept, inserted, unsplit, split, entered, splitAt, enteredAt, enter}
 use Rattle.meaning.specs.Batch.{serve, wordsAfter, answersTo, batch}
-use Rattle.meaning.specs.Listing.{sameBytes, digitsOf, decimal, twoDigits, dateText}
+use Rattle.meaning.specs.Listing.{digitsOf, decimal, twoDigits, dateText}
 
 unfoldable pub all-names : Unit {0}
 unfolding bytes alphabet shown place codeOf packed packedAt spelled textOf inName inText blank padded legalText spells legalName

@@ -7,7 +7,7 @@ use mathlib.Core.List.{List, [], _∷_, _++_, map}
 use lib.ListN.{set, replicate}
 use lib.IntN.{ℤ, pos, negsuc}
 use lib.Dec.{eqb}
-use Rattle.names.specs.Text.{bytes}
+use Rattle.names.specs.Text.{bytes, sameBytes}
 use Rattle.names.specs.Radix.{wordsOfText}
 use Rattle.dates.specs.Dates.{wordOfDay}
 use Rattle.meaning.specs.declared.Op.{Op}
@@ -22,7 +22,7 @@ use Rattle.meaning.specs.Requests as Requests
 use Rattle.meaning.specs.Kinds.{tentativeStatus, permanentStatus}
 use Rattle.meaning.specs.Requests.{entryOf, emptyEntry, render}
 use Rattle.meaning.specs.Batch.{serve, batch}
-use Rattle.meaning.specs.Listing.{sameBytes, dateText}
+use Rattle.meaning.specs.Listing.{dateText}
 
 -- a step of an example: a fresh start with E extra words, or a request
 pub data Ask : Type 0 where

@@ -5,7 +5,7 @@ use mathlib.Core.Bool.{Bool, true, false, cond, _&&_}
 use mathlib.Core.List.{List, [], _∷_, _++_}
 use lib.ListN.{length, getD, take, drop, replicate}
 use lib.Dec.{eqb, leb, ltb}
-use Rattle.names.specs.Text.{bytes}
+use Rattle.names.specs.Text.{bytes, sameBytes}
 use Rattle.names.specs.Radix.{textOf}
 use Rattle.dates.specs.Dates.{namesDay, dayOfWord}
 use Rattle.meaning.specs.declared.Kind.{Kind}
@@ -36,12 +36,6 @@ volumeIn file = wordAt file 5
 
 unfoldable pub directoryIn : List ℕ → List ℕ
 directoryIn file = wordsIn (drop headBytes file)
-
-unfoldable pub sameBytes : List ℕ → List ℕ → Bool
-sameBytes [] [] = true
-sameBytes [] (y ∷ ys) = false
-sameBytes (x ∷ xs) [] = false
-sameBytes (x ∷ xs) (y ∷ ys) = let r = sameBytes xs ys in eqb x y && r
 
 -- what 17 asks of a head file: its head is whole, its directory no longer than 31 segments, mark and version are right, no word is half
 unfoldable pub goodHead : List ℕ → Bool

@@ -5,6 +5,7 @@ use mathlib.Core.Path.{_≡_, sym, _∙_}
 use Rattle.names.proofs.radix.words_of_text.Reads as words-of-text
 use Rattle.names.proofs.radix.text_of_words.Reads as text-of-words
 use Rattle.names.proofs.radix.is_legal_name.Reads as is-legal-name
+use Rattle.names.proofs.text.same_bytes.Reads as same-bytes
 
 pub words-of-text-determined : (κs : _) (a : _) (r r′ : _) (s s′ : _) → words-of-text.Post κs a r s → words-of-text.Post κs a r′ s′ → r ≡ r′
 words-of-text-determined κs a r r′ s s′ p q = p ∙ sym q
@@ -14,3 +15,6 @@ text-of-words-determined κs a r r′ s s′ p q = p ∙ sym q
 
 pub is-legal-name-determined : (κs : _) (a : _) (r r′ : _) (s s′ : _) → is-legal-name.Post κs a r s → is-legal-name.Post κs a r′ s′ → r ≡ r′
 is-legal-name-determined κs a r r′ s s′ p q = p ∙ sym q
+
+pub same-bytes-determined : (κs : _) (a : _) (r r′ : _) (s s′ : _) → same-bytes.Post κs a r s → same-bytes.Post κs a r′ s′ → r ≡ r′
+same-bytes-determined κs a r r′ s s′ p q = p ∙ sym q

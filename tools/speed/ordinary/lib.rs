@@ -6,6 +6,7 @@
 mod batch;
 mod enter;
 mod files;
+mod label;
 mod listing;
 mod sound;
 mod words;
@@ -13,6 +14,7 @@ mod words;
 pub use batch::{run, run_each};
 pub use enter::{enter, fresh};
 pub use files::{abandon, close, delete, lookup, protect, rename, unprotect};
+pub use label::{read_label, write_label};
 pub use listing::{listing, ROOM};
 pub use sound::fault;
 pub use words::FILE_BAD;

@@ -1,8 +1,9 @@
 //! The listing, straight into the lent bytes. A row has 36 of them, whatever it shows.
+use crate::label::read_label;
 use crate::sound::fault;
 use crate::words::*;
 
-pub const ROOM: usize = 79319;
+pub const ROOM: usize = 79351;
 
 /// A text that grows.
 struct Text<'a> {
@@ -122,14 +123,11 @@ fn rows(text: &mut Text, d: &[u16]) -> [u16; 3] {
 #[inline(never)]
 pub fn listing(file: &[u8], out: &mut [u8; ROOM]) -> usize {
     let mut text = Text { out, at: 0 };
-    let mut words = [0; 15872];
     let number = match file {
-        [b'R', b'V', b'H', 1, 0, low, high, rest @ ..] if rest.len() % 2 == 0 && rest.len() <= 31744 => {
-            let d = &mut words[..rest.len() / 2];
-            for (word, bytes) in d.iter_mut().zip(rest.chunks_exact(2)) {
-                *word = u16::from_le_bytes([bytes[0], bytes[1]]);
-            }
-            list_words(&mut text, d, u16::from_le_bytes([*low, *high]))
+        [b'R', b'V', b'H', 1, 0, low, high, rest @ ..] => list_bytes(&mut text, None, rest, u16::from_le_bytes([*low, *high])),
+        [b'R', b'V', b'H', 2, 0, low, high, rest @ ..] if rest.len() >= 512 => {
+            let (block, rest) = rest.split_at(512);
+            list_bytes(&mut text, Some(block), rest, u16::from_le_bytes([*low, *high]))
         }
         _ => 17,
     };
@@ -140,20 +138,42 @@ pub fn listing(file: &[u8], out: &mut [u8; ROOM]) -> usize {
     text.at
 }
 
-/// The listing of a sound directory, or the number of its fault.
-fn list_words(text: &mut Text, d: &[u16], v: u16) -> u16 {
+/// The listing of a directory's bytes, behind the line of a label where there is a block for it; or the number of a refusal.
+fn list_bytes(text: &mut Text, block: Option<&[u8]>, bytes: &[u8], v: u16) -> u16 {
+    if bytes.len() % 2 != 0 || bytes.len() > 31744 {
+        return 17;
+    }
+    let label = block.map(read_label);
+    if let Some((25, ..)) = label {
+        return 25;
+    }
+    let mut words = [0; 15872];
+    let d = &mut words[..bytes.len() / 2];
+    for (word, pair) in d.iter_mut().zip(bytes.chunks_exact(2)) {
+        *word = u16::from_le_bytes([pair[0], pair[1]]);
+    }
     let number = fault(d, v as usize);
     if number == 0 {
-        text.number(b"VOLUME ", v);
-        text.number(b" SEGMENTS ", d[2]);
-        text.number(b" OF ", d[0]);
-        text.number(b" EXTRA ", d[3]);
-        text.put(b"\n");
-        let [files, opened, free] = rows(text, d);
-        text.number(b"FILES ", files);
-        text.number(b" OPEN ", opened);
-        text.number(b" FREE ", free);
-        text.put(b"\n");
+        match label {
+            Some((_, true, name, owner)) => [b"LABEL ", &name[..], b" ", &owner, b"\n"].iter().for_each(|part| text.put(part)),
+            Some(_) => text.put(b"UNLABELLED\n"),
+            None => {}
+        }
+        list_words(text, d, v);
     }
     number
+}
+
+/// The listing of a sound directory.
+fn list_words(text: &mut Text, d: &[u16], v: u16) {
+    text.number(b"VOLUME ", v);
+    text.number(b" SEGMENTS ", d[2]);
+    text.number(b" OF ", d[0]);
+    text.number(b" EXTRA ", d[3]);
+    text.put(b"\n");
+    let [files, opened, free] = rows(text, d);
+    text.number(b"FILES ", files);
+    text.number(b" OPEN ", opened);
+    text.number(b" FREE ", free);
+    text.put(b"\n");
 }

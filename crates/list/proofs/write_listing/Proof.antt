@@ -5,7 +5,7 @@ use mathlib.Core.List.{List, _++_}
 use Prim.Native.Nat.{ℕ, _≤_}
 use native.Mathlib.Omega.{arith}
 use lib.ListN.{length, length-append}
-use Rattle.meaning.specs.Listing.{listing as text}
+use Rattle.listing.specs.HeadFiles.{listingOf}
 use Rattle.list.proofs.write_listing.Statement.{statement}
 use Rattle.list.proofs.write_listing.Tie as tie
 
@@ -18,7 +18,7 @@ listing-requires c κs = search needs
 write-start-requires : tie.Need-write-start-requires
 write-start-requires c κs =
     let l = c .before .listing .ensures in
-    begins (text (c .before .before .before .before .args .file .now)) _ (l .long) (l .text)
+    begins (listingOf (c .before .before .before .before .args .file .now)) _ (l .long) (l .text)
 
 returns : tie.Need-returns
 returns c = search needs

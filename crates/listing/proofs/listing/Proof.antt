@@ -1,75 +1,44 @@
--- `listing` meets its contract: a bad head has the line of 17 (law `bad-head`); with a good one the words that are listed are the
--- directory's (laws `loaded`, `good-head`).
-use mathlib.Core.Path.{_≡_, sym, ap, _∙_}
+-- `listing` meets its contract: a good head file of version 2 has its listing (law `listed-second`), and any other document 01's (law
+-- `listed-first`).
+use borrow.Author.Needs.{needs}
+use mathlib.Core.Path.{_≡_, sym, _∙_}
 use mathlib.Core.Bool.{true}
 use native.Mathlib.Omega.{arith}
-use borrow.Author.Tests.{not-true, not-false}
-use lib.ListN.{length}
 use denote.Ref.{now}
-use Rattle.meaning.specs.Listing.{goodHead}
-use Rattle.listing.proofs.Marks.{good-parts}
-use Rattle.listing.proofs.Whole.{loaded, bad-head, good-head}
-use borrow.Author.Needs.{needs}
+use Rattle.listing.specs.HeadFiles.{goodSecond}
+use Rattle.listing.proofs.Marks.{head-second}
+use Rattle.listing.proofs.Second.{listed-second, listed-first}
 use Rattle.listing.proofs.listing.Statement.{statement}
 use Rattle.listing.proofs.listing.Tie as tie
 
 good-head-requires : tie.Need-good-head-requires
 good-head-requires c κs = search needs
 
-refused-line-requires : tie.Need-refused-line-requires
-refused-line-requires c κs = search needs
+good-at : (c : tie.Then1) → goodSecond (now (c .before .before .before .args .file)) ≡ true
+good-at c =
+    let file = now (c .before .before .before .args .file) in
+    let g = c .before .good-head in
+    sym (head-second file) ∙ sym (g .ensures) ∙ c .if1 .taken
+
+list-second-requires : tie.Need-list-second-requires
+list-second-requires c κs = (good-at (c .before), omega arith)
 
 returns : tie.Need-returns
 returns c =
-    let t = c .before .before in
-    let g = t .before .good-head in
-    bad-head (now (t .before .before .before .args .file)) (sym (g .ensures) ∙ not-true (g .result) (t .if1 .taken)) (c .refused-line .ensures)
+    let i = c .before .before in
+    listed-second (now (i .before .before .before .args .file)) (good-at i) (c .list-second .ensures)
 
-good-at : (c : tie.Else1) → goodHead (now (c .before .before .before .args .file)) ≡ true
-good-at c =
-    let g = c .before .good-head in
-    sym (g .ensures) ∙ not-false (g .result) (c .if1 .left)
-
-volume-in-requires : tie.Need-volume-in-requires
-volume-in-requires c κs = good-parts (now (c .before .before .before .args .file)) (good-at c) .long
-
-slice-aggregate-load-words : tie.Need-slice-aggregate-load-words
-slice-aggregate-load-words c = search needs
-
-load-words-requires : tie.Need-load-words-requires
-load-words-requires c κs =
-    let p = good-parts (now (c .before .before .before .before .before .args .file)) (good-at (c .before .before)) in
-    (p .long, p .within)
-
-array-share-prefix-words : tie.Need-array-share-prefix-words
-array-share-prefix-words c = search needs
-
-slice-aggregate-list-words : tie.Need-slice-aggregate-list-words
-slice-aggregate-list-words c =
-    let w = c .before .before .before .load-words .ensures in
-    omega (arith, w .ends, ap length (loaded w))
-
-list-words-requires : tie.Need-list-words-requires
-list-words-requires c κs = search needs
+list-first-requires : tie.Need-list-first-requires
+list-first-requires c κs = search needs
 
 returns-2 : tie.Need-returns-2
 returns-2 c =
-    let w = c .before .before .before .before in
-    let v = w .before .before in
-    let e = v .before in
-    good-head (now (e .before .before .before .args .file)) (good-at e) (v .volume-in .ensures .is) (loaded (w .load-words .ensures)) (c .list-words .ensures)
+    let i = c .before .before in
+    let file = now (i .before .before .before .args .file) in
+    let g = i .before .good-head in
+    listed-first file (sym (head-second file) ∙ sym (g .ensures) ∙ i .if1 .left) (c .list-first .ensures)
 
 pub listing-spec : {M : Type 1} → statement M
 listing-spec =
     tie.close
-    (tie.spec
-    good-head-requires
-    refused-line-requires
-    returns
-    volume-in-requires
-    slice-aggregate-load-words
-    load-words-requires
-    array-share-prefix-words
-    slice-aggregate-list-words
-    list-words-requires
-    returns-2)
+    (tie.spec good-head-requires list-second-requires returns list-first-requires returns-2)

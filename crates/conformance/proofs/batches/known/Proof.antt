@@ -25,6 +25,9 @@ word-at-requires c κs = search needs
 is-request-requires : tie.Need-is-request-requires Inv-loop μ-loop
 is-request-requires c κs = search needs
 
+cast-refused : tie.Need-cast-refused Inv-loop μ-loop
+cast-refused c = search needs
+
 sub-refused : tie.Need-sub-refused Inv-loop μ-loop
 sub-refused c = search needs
 
@@ -60,6 +63,7 @@ known-spec =
     mul-word-at
     word-at-requires
     is-request-requires
+    cast-refused
     sub-refused
     mul-refused
     refused-requires

@@ -9,10 +9,10 @@ use Rattle.listing.proofs.words.load_words.Statement.{statement}
 use Rattle.listing.proofs.words.load_words.Tie as tie
 
 abbrev Inv-loop : tie.InvT-loop
-Inv-loop file words₀ count i₀ words i = Loading file words₀ words count i
+Inv-loop file first words₀ count i₀ words i = Loading first file words₀ words count i
 
 abbrev μ-loop : tie.MeasureT-loop
-μ-loop file words₀ count i₀ words i = count - i
+μ-loop file first words₀ count i₀ words i = count - i
 
 sub-count : tie.Need-sub-count Inv-loop μ-loop
 sub-count c = search needs
@@ -20,7 +20,7 @@ sub-count c = search needs
 loop-holds : tie.Need-loop-holds Inv-loop μ-loop
 loop-holds c =
     let a = c .before .before .args in
-    load-none (now (a .file)) (now (a .words)) (omega arith) (omega arith)
+    load-none (a .first) (now (a .file)) (now (a .words)) (omega arith) (omega arith)
 
 mul-word-at : tie.Need-mul-word-at Inv-loop μ-loop
 mul-word-at c = search needs

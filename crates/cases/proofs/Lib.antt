@@ -1,0 +1,4 @@
+pub mod Checked
+pub mod Follow
+pub mod Turned
+pub mod Fields

@@ -1,0 +1,2 @@
+pub mod Labels
+pub mod Laws
