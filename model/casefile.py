@@ -1,12 +1,14 @@
-"""Writes case files (docs/CASES.md) and the lines that a right program writes for them, by the rules of rt11.py and home.py. There is
-nothing to run here: cases.py and what it uses do.
+"""Writes case files (docs/CASES.md) and the lines that a right program writes for them, by the rules of rt11.py, home.py and loads.py.
+There is nothing to run here: cases.py and what it uses do.
 """
 import struct
 
 import home
+import loads
 import rt11
 
-END, LOAD, FRESH, REQUEST, READ_LABEL, WRITE_LABEL, BATCH, CHANGE = 0, 1, 2, 3, 7, 8, 100, 101
+END, LOAD, FRESH, REQUEST, READ_LABEL, WRITE_LABEL, READ_LOAD, WRITE_LOAD, BATCH, CHANGE = 0, 1, 2, 3, 7, 8, 9, 11, 100, 101
+ROOM_BYTE = 170  # in all of the output's room before a load file is written into it
 
 
 def two_words(number):
@@ -22,6 +24,11 @@ def byte_words(text):
 
 def counted(text):
     return [*two_words(len(text)), *byte_words(text)]
+
+
+def memory_words(n, fill, step):
+    """A memory as a case file gives it."""
+    return [(fill + i * step) % 65_536 for i in range(n)]
 
 
 def request_words(request):
@@ -84,6 +91,20 @@ class CaseFile:
         number, after = home.write_label(block, name, owner)
         self.lines.append(f"mark {number} {rt11.check(after)}")
         return number, after
+
+    def read_load(self, memory, stream):
+        """The memory is n, fill and step. Answers the number, the transfer address, and the memory's words afterwards."""
+        self.records += [READ_LOAD, *memory, *counted(stream)]
+        number, address, after = loads.read_load(memory_words(*memory), stream)
+        self.lines.append(f"load {number} {address} {rt11.check(after)}")
+        return number, address, after
+
+    def write_load(self, memory, first, count, address, room):
+        """Answers the number, the count of bytes made, and all bytes of the output's room afterwards."""
+        self.records += [WRITE_LOAD, *memory, *two_words(first), *two_words(count), address, *two_words(room)]
+        number, made, after = loads.write_load(memory_words(*memory), first, count, address, bytes([ROOM_BYTE]) * room)
+        self.lines.append(f"save {number} {made} {rt11.check(after)}")
+        return number, made, after
 
     def end(self):
         self.records.append(END)
@@ -150,6 +171,10 @@ def run_record(case, kind, reader):
         case.read_label(reader.block())
     elif kind == WRITE_LABEL:
         case.write_label(reader.block(), reader.bytes(12), reader.bytes(12))
+    elif kind == READ_LOAD:
+        case.read_load(reader.take(3), reader.block())
+    elif kind == WRITE_LOAD:
+        case.write_load(reader.take(3), reader.long(), reader.long(), reader.word(), reader.long())
     elif kind == BATCH:
         room, count = reader.take(2)
         case.batch([reader.request() for _ in range(count)], room)

@@ -5,9 +5,9 @@
     python3 model/cases.py --check                                      tells whether they are what the model gives today
     python3 model/cases.py --run FILE                                   prints the lines that the model gives for a case file
 
-stdin is the outside part, the named files in this order, and then our own part: the bench examples, the evening's batches, the channels, the
-ages, the bad areas, the protected files, the places, the labels, the trials and one seed of random requests. Its lines come from the model
-alone.
+stdin is the outside part, the named files in this order, and then our own part: the bench examples, the evening's batches, the channels,
+the ages, the bad areas, the protected files, the places, the labels, the tapes (absolute load files), the trials and one seed of random
+requests. Its lines come from the model alone.
 """
 import itertools
 import pathlib
@@ -23,6 +23,7 @@ import guards
 import labels
 import places
 import requests
+import tapes
 import trials
 
 CONFORMANCE = pathlib.Path(__file__).resolve().parent.parent / "crates" / "conformance"
@@ -41,6 +42,7 @@ def own_part():
     guards.add(case)
     places.add(case)
     labels.add(case)
+    tapes.add(case)
     trials.add(case)
     requests.add(case, SEED, DIRECTORIES)
     case.end()

@@ -1,6 +1,7 @@
 //! Before anything is timed: both sides must give the same answers and leave the same words, on random requests on small volumes of all
-//! forms and on damaged directories.
+//! forms, on damaged directories, and on load files, damaged ones too.
 use crate::ours;
+use crate::streams;
 use crate::volumes::{head_file, label_text, labelled_block, Random};
 use ordinary::{Answer, Name, Op, Request, FILE_BAD, ROOM};
 
@@ -186,6 +187,62 @@ fn same_batch(d: &mut [u16], v: usize, random: &mut Random) {
     assert!(x == y && d == e && x == z && d == f, "the batches differ in answers or words");
 }
 
+/// A memory that is small, so that addresses meet its end; seldom one of about 65,536 bytes, some with words that no load file can reach.
+fn some_memory(random: &mut Random) -> Vec<u16> {
+    let count = if random.below(50) == 0 { 32766 + random.below(5) } else { random.below(400) };
+    streams::words(count, random)
+}
+
+/// A load file read, which may be damaged, or pass the memory's end by a byte.
+fn same_load(random: &mut Random) -> u16 {
+    let mut d = some_memory(random);
+    let mut e = d.clone();
+    let size = (2 * d.len()).min(65536) + (random.below(8) == 0) as usize;
+    let mut stream = streams::any_blocks(size, random);
+    streams::damage(&mut stream, random);
+    let (x, y) = (ours::load(&stream, &mut d), ordinary::load(&stream, &mut e));
+    assert_eq!(x, y, "the readers differ");
+    assert!(d == e, "the memories differ");
+    x.0
+}
+
+/// A load file written, of a range that may pass the memory's end by some bytes or by all, in room that may be a byte short.
+fn same_save(random: &mut Random) -> u16 {
+    let words = some_memory(random);
+    let size = (2 * words.len()).min(65536);
+    let start = random.below(size + 3);
+    let count = match random.below(20) {
+        0 => usize::MAX - random.below(size + 3),
+        1..=4 => (size + random.below(3)).saturating_sub(start + 1),
+        _ => random.below(size.saturating_sub(start) + 2),
+    };
+    let transfer = random.below(65536) as u16;
+    let need = count.min(65536) + 7 * count.min(65536).div_ceil(128) + 7;
+    let mut b = streams::bytes((need + random.below(4)).saturating_sub(1), random);
+    let mut c = b.clone();
+    let (x, y) = (ours::save(&words, start, count, transfer, &mut b), ordinary::save(&words, start, count, transfer, &mut c));
+    assert_eq!(x, y, "the writers of load files differ");
+    assert!(b == c, "the load files differ");
+    x.0
+}
+
+/// Load files read and written. Their chance has no part in that of the requests.
+fn same_loads(cases: usize) {
+    let mut random = Random(10);
+    let (mut read, mut wrote) = ([0; 32], [0; 32]);
+    for _ in 0..cases {
+        read[same_load(&mut random) as usize] += 1;
+        wrote[same_save(&mut random) as usize] += 1;
+    }
+    println!(
+        "The same memories and files: {cases} load files read, {} of them refused, and {cases} written, {} refused.",
+        cases - read[0],
+        cases - wrote[0]
+    );
+    assert!([0, 27, 28, 29, 30, 31].iter().all(|&k| read[k] > 0), "a number was never answered: {read:?}");
+    assert!([0, 24, 29].iter().all(|&k| wrote[k] > 0), "a number was never answered: {wrote:?}");
+}
+
 /// Panics where the two sides differ. Says how often each number was answered.
 pub fn agree(volumes: usize) {
     let mut random = Random(1976);
@@ -203,4 +260,5 @@ pub fn agree(volumes: usize) {
     );
     assert!(faults[1..].iter().all(|&k| k > 0), "a fault was never met: {faults:?}");
     assert!([0, 7, 8, 9, 10, 11, 12, 13, 14, 15, 16, 19, 20].iter().all(|&k| seen[k] > 0), "a number was never answered: {seen:?}");
+    same_loads(20_000);
 }

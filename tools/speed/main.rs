@@ -6,6 +6,7 @@ mod bucket {
     include!(env!("BUCKET"));
 }
 mod ours;
+mod streams;
 mod volumes;
 
 use ordinary::{Answer, Name, Request, ROOM};
@@ -181,6 +182,24 @@ fn time_label(random: &mut Random) {
     compare("label written", &blocks, ours, |block, k| ordinary::write_label(block, &texts[k][0], &texts[k][1]));
 }
 
+/// A full memory saved and loaded, and as much as half of it in small blocks.
+fn time_loads(random: &mut Random) {
+    let memories: Vec<Vec<u16>> = (0..4).map(|_| streams::words(32768, random)).collect();
+    let full = |words: &Vec<u16>| {
+        let mut out = vec![0; 69127];
+        assert_eq!(ordinary::save(words, 0, 65536, 512, &mut out), (0, 69127));
+        out
+    };
+    let files: Vec<Vec<u8>> = memories.iter().map(full).collect();
+    let other: Vec<Vec<u16>> = (0..4).map(|_| streams::words(32768, random)).collect();
+    compare("load file read, full memory", &other, |d, k| ours::load(&files[k], d), |d, k| ordinary::load(&files[k], d));
+    let small: Vec<Vec<u8>> = (0..4).map(|_| streams::small_blocks(4096, 8, random)).collect();
+    compare("load file read, 4,096 blocks of 8 bytes", &other, |d, k| ours::load(&small[k], d), |d, k| ordinary::load(&small[k], d));
+    let rooms = vec![vec![b'#'; 69127]; 4];
+    let ours = |out: &mut Vec<u8>, k: usize| ours::save(&memories[k], 0, 65536, 512, out);
+    compare("load file written, full memory", &rooms, ours, |out, k| ordinary::save(&memories[k], 0, 65536, 512, out));
+}
+
 fn main() {
     let start = Instant::now();
     let mut random = Random(1976);
@@ -196,5 +215,6 @@ fn main() {
     time_batch(&mut random);
     [false, true].into_iter().for_each(|labelled| time_listing(labelled, &mut random));
     time_label(&mut random);
+    time_loads(&mut random);
     println!("\nMicroseconds for one call; {} s in all.", start.elapsed().as_secs());
 }

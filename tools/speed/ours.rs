@@ -16,6 +16,8 @@ extern "C" {
     fn our_listing(file: *const u8, len: usize, out: *mut u8) -> usize;
     fn our_read_label(block: *const u8, len: usize, name: &mut [u8; 12], owner: &mut [u8; 12]) -> u32;
     fn our_write_label(block: *mut u8, len: usize, name: &[u8; 12], owner: &[u8; 12]) -> u32;
+    fn our_load(stream: *const u8, size: usize, words: *mut u16, len: usize, transfer: &mut u16) -> u32;
+    fn our_save(words: *const u16, len: usize, start: usize, n: usize, transfer: u16, out: *mut u8, room: usize, made: &mut usize) -> u32;
     // Not exported, since it takes records: called as the proved code calls it, where a slice goes as a pointer to both.
     #[link_name = "batch::run"]
     fn our_batch(d: &Lent<u16>, v: usize, requests: &Lent<Request>, answers: &Lent<Answer>) -> u32;
@@ -88,6 +90,21 @@ pub fn read_label(block: &[u8]) -> (u16, [u8; 12], [u8; 12]) {
 
 pub fn write_label(block: &mut [u8], name: &[u8; 12], owner: &[u8; 12]) -> u16 {
     unsafe { our_write_label(block.as_mut_ptr(), block.len(), name, owner) as u16 }
+}
+
+/// Number and transfer address.
+pub fn load(stream: &[u8], words: &mut [u16]) -> (u16, u16) {
+    let mut transfer = 0;
+    let number = unsafe { our_load(stream.as_ptr(), stream.len(), words.as_mut_ptr(), words.len(), &mut transfer) as u16 };
+    (number, transfer)
+}
+
+/// Number, and how many bytes were made.
+pub fn save(words: &[u16], start: usize, count: usize, transfer: u16, out: &mut [u8]) -> (u16, usize) {
+    let mut made = 0;
+    let (p, len, room) = (words.as_ptr(), words.len(), out.len());
+    let number = unsafe { our_save(p, len, start, count, transfer, out.as_mut_ptr(), room, &mut made) as u16 };
+    (number, made)
 }
 
 pub fn run(d: &mut [u16], v: usize, requests: &[Request], answers: &mut [Answer]) -> u16 {

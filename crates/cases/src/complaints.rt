@@ -12,6 +12,8 @@ pub enum Why {
     Requests,
     Place,
     Bytes,
+    Memory,
+    Output,
 }
 
 // How the line begins that speaks of it. Whether it got out is no matter: the run ends anyway.
@@ -25,6 +27,8 @@ pub(crate) fn complain(why: Why) -> bool {
         Why::Requests => io::write_all(fd, b"conformance: more than eight requests, "),
         Why::Place => io::write_all(fd, b"conformance: a place outside the directory, "),
         Why::Bytes => io::write_all(fd, b"conformance: more bytes than 100,000, "),
+        Why::Memory => io::write_all(fd, b"conformance: a memory of more words than 40,000, "),
+        Why::Output => io::write_all(fd, b"conformance: room for more bytes than 70,000, "),
     }
 }
 

@@ -24,6 +24,8 @@ fn head_bytes(number: u16) -> usize
         2 => 2,
         3 => 28,
         7 | 8 | 100 => 4,
+        9 => 10,
+        11 => 20,
         101 => 2,
         _ => 0,
     }
@@ -55,13 +57,14 @@ fn take_own(d: &mut [u16], state: State, head: &[u8]) -> State
     }
 }
 
-// What the types ask for that came from outside after the first four: a label read or written.
+// What the types ask for that came from outside after the first four: a label or a load file, read or written.
 fn take_later(d: &mut [u16], state: State, head: &[u8]) -> State
     requires { ⌜ (length (now d) ≡ 15872) × (state .words ≤ 15872) × (length (now head) ≡ 30) ⌝ }
     ensures { λ r. ⌜ r .words ≤ 15872 ⌝ }
 {
     match word_at(head, 0) {
         7 | 8 => labelcases::take_block(state, head),
+        9 | 11 => loadcases::take_memory(state, head),
         _ => take_own(d, state, head),
     }
 }

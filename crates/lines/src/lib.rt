@@ -12,7 +12,7 @@ ghost use Rattle.lines.specs.Pieces.{dotted, nameBy, rowStart, rowDate, 
 ghost use Rattle.lines.specs.Bounds.{Spelled};
 
 // Any bytes, as they are.
-fn put_bytes(out: &mut [u8], at: usize, text: &[u8]) -> usize
+pub fn put_bytes(out: &mut [u8], at: usize, text: &[u8]) -> usize
     requires { ⌜ at + length (now text) ≤ length (now out) ⌝ }
     ensures { λ r. ⌜ Wrote (now (out .entry)) at (now (text .entry)) (now (out .exit)) r ⌝ }
 {
@@ -40,7 +40,7 @@ fn decimal(out: &mut [u8], at: usize, n: usize) -> usize
 }
 
 // A number six wide: the last six bytes of six spaces and the number, so that no space is counted.
-fn six_wide(out: &mut [u8], at: usize, n: usize) -> usize
+pub fn six_wide(out: &mut [u8], at: usize, n: usize) -> usize
     requires { ⌜ (n ≤ 65535) × (at + 6 ≤ length (now out)) ⌝ }
     ensures { λ r. ⌜ WroteAtMost 6 (now (out .entry)) at (sixWide n) (now (out .exit)) r ⌝ }
 {

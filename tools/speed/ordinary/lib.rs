@@ -8,6 +8,7 @@ mod enter;
 mod files;
 mod label;
 mod listing;
+mod loads;
 mod sound;
 mod words;
 
@@ -16,6 +17,7 @@ pub use enter::{enter, fresh};
 pub use files::{abandon, close, delete, lookup, protect, rename, unprotect};
 pub use label::{read_label, write_label};
 pub use listing::{listing, ROOM};
+pub use loads::{load, save};
 pub use sound::fault;
 pub use words::FILE_BAD;
 
