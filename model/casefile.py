@@ -7,7 +7,8 @@ import home
 import loads
 import rt11
 
-END, LOAD, FRESH, REQUEST, READ_LABEL, WRITE_LABEL, READ_LOAD, WRITE_LOAD, BATCH, CHANGE = 0, 1, 2, 3, 7, 8, 9, 11, 100, 101
+END, LOAD, FRESH, REQUEST, READ_LABEL, WRITE_LABEL, READ_LOAD, READ_PIECES, WRITE_LOAD = 0, 1, 2, 3, 7, 8, 9, 10, 11
+BATCH, CHANGE = 100, 101  # our own
 ROOM_BYTE = 170  # in all of the output's room before a load file is written into it
 
 
@@ -99,6 +100,15 @@ class CaseFile:
         self.lines.append(f"load {number} {address} {rt11.check(after)}")
         return number, address, after
 
+    def read_pieces(self, memory, stream, lengths, ended):
+        """The lengths are those of the pieces, in order. Answers as loads.read_pieces does: five numbers, and the memory's words."""
+        assert sum(lengths) == len(stream), "the pieces are not the stream"
+        pieces = [word for length in lengths for word in two_words(length)]
+        self.records += [READ_PIECES, *memory, *counted(stream), len(lengths), *pieces, ended]
+        *numbers, after = loads.read_pieces(memory_words(*memory), stream, ended)
+        self.lines.append(" ".join(["pieces", *map(str, numbers), str(rt11.check(after))]))
+        return *numbers, after
+
     def write_load(self, memory, first, count, address, room):
         """Answers the number, the count of bytes made, and all bytes of the output's room afterwards."""
         self.records += [WRITE_LOAD, *memory, *two_words(first), *two_words(count), address, *two_words(room)]
@@ -173,6 +183,8 @@ def run_record(case, kind, reader):
         case.write_label(reader.block(), reader.bytes(12), reader.bytes(12))
     elif kind == READ_LOAD:
         case.read_load(reader.take(3), reader.block())
+    elif kind == READ_PIECES:
+        case.read_pieces(reader.take(3), reader.block(), [reader.long() for _ in range(reader.word())], reader.word())
     elif kind == WRITE_LOAD:
         case.write_load(reader.take(3), reader.long(), reader.long(), reader.word(), reader.long())
     elif kind == BATCH:

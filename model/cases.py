@@ -6,8 +6,8 @@
     python3 model/cases.py --run FILE                                   prints the lines that the model gives for a case file
 
 stdin is the outside part, the named files in this order, and then our own part: the bench examples, the evening's batches, the channels,
-the ages, the bad areas, the protected files, the places, the labels, the tapes (absolute load files), the trials and one seed of random
-requests. Its lines come from the model alone.
+the ages, the bad areas, the protected files, the places, the labels, the tapes (absolute load files), the pieces (load files that come in
+pieces), the trials and one seed of random requests. Its lines come from the model alone.
 """
 import itertools
 import pathlib
@@ -21,6 +21,7 @@ import channels
 import evening
 import guards
 import labels
+import pieces
 import places
 import requests
 import tapes
@@ -43,6 +44,7 @@ def own_part():
     places.add(case)
     labels.add(case)
     tapes.add(case)
+    pieces.add(case)
     trials.add(case)
     requests.add(case, SEED, DIRECTORIES)
     case.end()

@@ -1,6 +1,6 @@
-"""Absolute load files (.LDA), read, written and shown as a map, in plain Python, from the text of document 02's Req 10 alone. A stream is
-bytes, any number of them; a memory is 16-bit words, any number of them, low byte first. There is nothing to run here: casefile.py makes
-records by these rules, maps.py the sample files and their maps.
+"""Absolute load files (.LDA), read at once and in pieces, written, and shown as a map, in plain Python, from the text of document 02's
+Reqs 10 and 11 alone. A stream is bytes, any number of them; a memory is 16-bit words, any number of them, low byte first. There is nothing
+to run here: casefile.py makes records by these rules, maps.py the sample files and their maps.
 """
 import struct
 from typing import NamedTuple
@@ -10,14 +10,17 @@ HEADER_BYTES, CHECKSUM_BYTES = 6, 1
 END_COUNT = HEADER_BYTES  # a header without data
 WRITTEN_BYTES = 128  # of data in a block that the writer makes
 ADDRESSED_BYTES = 65_536  # no address reaches further
+PROVISIONAL, ACCEPTED, REFUSED = 0, 1, 2  # where a reader stands that takes pieces
 
 
 class Block(NamedTuple):
-    """A right block, or the refusal of what stands in its place. The end block has no data, and its address is the transfer address."""
+    """A right block, or the refusal of what stands in its place: then the data is what came of it before the fault, and the offset that of
+    the byte that showed the fault. The end block has no data, and its address is the transfer address."""
 
     number: int
     address: int = 0
     data: bytes = b""
+    offset: int = 0
 
 
 def word_at(text, at):
@@ -85,18 +88,32 @@ def rest_refusal(stream, at, behind):
     return 31 if sum(stream[at:behind]) % 256 else 0
 
 
+def shown_at(number, stream, at):
+    """The offset of the byte that shows this refusal of the block that begins here. What is missing shows at the stream's end."""
+    if number == 27:
+        return at if stream[at] != 1 else at + 1
+    if number == 28:
+        return at + ADDRESS - 1
+    if number == 29:
+        return at + HEADER_BYTES - 1
+    if number == 31:
+        return at + word_at(stream, at + COUNT)
+    return len(stream)
+
+
 def next_block(stream, at, size):
-    """The block that begins here, or its refusal, and the place behind it. The count covers header and data, not the checksum."""
+    """The block that begins here, or its refusal, and the place behind it. The count covers header and data, not the checksum. A slice ends
+    where the stream does, so the data of a block that is cut off is what there is of it."""
     header = stream[at : at + HEADER_BYTES]
     number = header_refusal(header, size)
     if number:
-        return Block(number), at
+        return Block(number, offset=shown_at(number, stream, at)), at
     count = word_at(header, COUNT)
-    behind = at + count + CHECKSUM_BYTES
+    address, data, behind = word_at(header, ADDRESS), stream[at + HEADER_BYTES : at + count], at + count + CHECKSUM_BYTES
     number = rest_refusal(stream, at, behind)
     if number:
-        return Block(number), at
-    return Block(0, word_at(header, ADDRESS), stream[at + HEADER_BYTES : at + count]), behind
+        return Block(number, address, data, shown_at(number, stream, at)), at
+    return Block(0, address, data), behind
 
 
 def blocks_of(stream, size):
@@ -115,6 +132,27 @@ def read_load(words, stream):
     if last.number:
         return last.number, 0, list(words)
     return 0, last.address, filled(words, blocks)
+
+
+# -- Reading in pieces --
+
+
+def read_pieces(words, stream, ended):
+    """The state, the number, the transfer address, how many data bytes were stored, the offset, and the memory, which holds all stores so
+    far. The stream is all pieces together: how it was cut makes no difference. Where it stops too early, more may come until the caller
+    says that it has ended. Every other answer stays whatever follows: it comes from the bytes up to the end block or the fault alone."""
+    blocks = blocks_of(stream, size_of(words))
+    last, after = blocks[-1], filled(words, blocks)
+    if last.number == 0:
+        return ACCEPTED, 0, last.address, 0, 0, after
+    if last.number == 30 and not ended:
+        return PROVISIONAL, 0, 0, 0, 0, after
+    return REFUSED, last.number, 0, stored_bytes(blocks), last.offset, after
+
+
+def stored_bytes(blocks):
+    """Each store counts, also one that overwrites another."""
+    return sum(len(block.data) for block in blocks)
 
 
 # -- Writing --

@@ -1,9 +1,9 @@
 //! Before anything is timed: both sides must give the same answers and leave the same words, on random requests on small volumes of all
-//! forms, on damaged directories, and on load files, damaged ones too.
+//! forms, on damaged directories, and on load files, whole and in pieces, damaged ones too.
 use crate::ours;
 use crate::streams;
 use crate::volumes::{head_file, label_text, labelled_block, Random};
-use ordinary::{Answer, Name, Op, Request, FILE_BAD, ROOM};
+use ordinary::{Answer, Name, Op, Report, Request, FILE_BAD, ROOM};
 
 /// How many requests a volume gets.
 const REQUESTS: usize = 500;
@@ -243,6 +243,59 @@ fn same_loads(cases: usize) {
     assert!([0, 24, 29].iter().all(|&k| wrote[k] > 0), "a number was never answered: {wrote:?}");
 }
 
+/// How long the pieces of a stream are: all of one length, or each of any, none among them. At times there are too few.
+fn some_lengths(size: usize, random: &mut Random) -> Vec<usize> {
+    let any = random.below(2) == 0;
+    let longest = [1, 2, 7, 20, 512, size][random.below(6)];
+    let mut lengths = Vec::new();
+    let mut sum = 0;
+    while sum < size && random.below(2000) > 0 {
+        lengths.push(if any { random.below(longest + 1) } else { longest });
+        sum += lengths[lengths.len() - 1];
+    }
+    lengths
+}
+
+/// A load file read in pieces, which may be damaged, or pass the memory's end by a byte. At times the reader is not told that it has ended.
+/// Where it is, and the pieces have all of it, number and transfer address must be those of the reader of whole files.
+fn same_pieces(random: &mut Random) -> Report {
+    let mut d = some_memory(random);
+    let (mut e, mut f) = (d.clone(), d.clone());
+    let size = (2 * d.len()).min(65536) + (random.below(8) == 0) as usize;
+    let mut stream = streams::any_blocks(size, random);
+    streams::damage(&mut stream, random);
+    let lengths = some_lengths(stream.len(), random);
+    let ends = random.below(4) > 0;
+    let (x, y) = (ours::read_pieces(&stream, &lengths, ends, &mut d), ordinary::read_pieces(&stream, &lengths, ends, &mut e));
+    assert_eq!(x, y, "the readers of pieces differ");
+    assert!(d == e, "the memories differ");
+    if ends && stream.len() <= lengths.iter().sum() {
+        let (number, transfer) = ordinary::load(&stream, &mut f);
+        match x {
+            Report::Accepted(address) => assert!((number, transfer) == (0, address) && d == f, "pieces and the whole differ"),
+            Report::Refused(k, _, _) => assert_eq!(number, k, "pieces and the whole differ"),
+            Report::Provisional => panic!("no answer, though the input has ended"),
+        }
+    }
+    x
+}
+
+/// Load files in pieces, whose chance has no part in that of others.
+fn same_cut(cases: usize) {
+    let mut random = Random(11);
+    let (mut refused, mut accepted, mut provisional) = ([0; 32], 0, 0);
+    for _ in 0..cases {
+        match same_pieces(&mut random) {
+            Report::Provisional => provisional += 1,
+            Report::Accepted(_) => accepted += 1,
+            Report::Refused(number, _, _) => refused[number as usize] += 1,
+        }
+    }
+    println!("The same answers and memories: {cases} load files in pieces, {accepted} accepted, {provisional} not decided.");
+    assert!(accepted > 0 && provisional > 0, "an answer was never given");
+    assert!([27, 28, 29, 30, 31].iter().all(|&k| refused[k] > 0), "a number was never answered: {refused:?}");
+}
+
 /// Panics where the two sides differ. Says how often each number was answered.
 pub fn agree(volumes: usize) {
     let mut random = Random(1976);
@@ -261,4 +314,5 @@ pub fn agree(volumes: usize) {
     assert!(faults[1..].iter().all(|&k| k > 0), "a fault was never met: {faults:?}");
     assert!([0, 7, 8, 9, 10, 11, 12, 13, 14, 15, 16, 19, 20].iter().all(|&k| seen[k] > 0), "a number was never answered: {seen:?}");
     same_loads(20_000);
+    same_cut(20_000);
 }

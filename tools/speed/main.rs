@@ -200,6 +200,25 @@ fn time_loads(random: &mut Random) {
     compare("load file written, full memory", &rooms, ours, |out, k| ordinary::save(&memories[k], 0, 65536, 512, out));
 }
 
+/// Load files in pieces: a full memory in large blocks, in those of 128 bytes that the writer makes, and half of one in small blocks.
+fn time_pieces(random: &mut Random) {
+    const BLOCKS: [(usize, usize, &str); 3] =
+        [(2, 32768, "2 blocks of 32,768"), (512, 128, "512 blocks of 128"), (4096, 8, "4,096 blocks of 8")];
+    let other: Vec<Vec<u16>> = (0..4).map(|_| streams::words(32768, random)).collect();
+    for (length, pieces) in [(512, "512 bytes at a time"), (1, "a byte at a time")] {
+        for (count, data, blocks) in BLOCKS {
+            let files: Vec<Vec<u8>> = (0..4).map(|_| streams::small_blocks(count, data, random)).collect();
+            let lengths = vec![length; files[0].len().div_ceil(length)];
+            compare(
+                &format!("load file read {pieces}, {blocks} bytes"),
+                &other,
+                |d, k| ours::read_pieces(&files[k], &lengths, true, d),
+                |d, k| ordinary::read_pieces(&files[k], &lengths, true, d),
+            );
+        }
+    }
+}
+
 fn main() {
     let start = Instant::now();
     let mut random = Random(1976);
@@ -216,5 +235,6 @@ fn main() {
     [false, true].into_iter().for_each(|labelled| time_listing(labelled, &mut random));
     time_label(&mut random);
     time_loads(&mut random);
+    time_pieces(&mut random);
     println!("\nMicroseconds for one call; {} s in all.", start.elapsed().as_secs());
 }

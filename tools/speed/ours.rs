@@ -1,6 +1,6 @@
 //! The proved routines, from the archive that `rt staticlib` wrote. A slice goes as its pointer and its length. Sixteen bits come back in a
 //! register whose upper half may be anything, hence u32 and a cast.
-use ordinary::{Answer, Name, Request, ROOM};
+use ordinary::{Answer, Name, Report, Request, ROOM};
 
 extern "C" {
     fn our_fault(d: *const u16, len: usize, v: usize) -> u32;
@@ -18,6 +18,7 @@ extern "C" {
     fn our_write_label(block: *mut u8, len: usize, name: &[u8; 12], owner: &[u8; 12]) -> u32;
     fn our_load(stream: *const u8, size: usize, words: *mut u16, len: usize, transfer: &mut u16) -> u32;
     fn our_save(words: *const u16, len: usize, start: usize, n: usize, transfer: u16, out: *mut u8, room: usize, made: &mut usize) -> u32;
+    fn our_read_pieces(s: *const u8, size: usize, lengths: *const usize, n: usize, ends: bool, d: *mut u16, len: usize, out: &mut [u64; 5]);
     // Not exported, since it takes records: called as the proved code calls it, where a slice goes as a pointer to both.
     #[link_name = "batch::run"]
     fn our_batch(d: &Lent<u16>, v: usize, requests: &Lent<Request>, answers: &Lent<Answer>) -> u32;
@@ -105,6 +106,18 @@ pub fn save(words: &[u16], start: usize, count: usize, transfer: u16, out: &mut 
     let (p, len, room) = (words.as_ptr(), words.len(), out.len());
     let number = unsafe { our_save(p, len, start, count, transfer, out.as_mut_ptr(), room, &mut made) as u16 };
     (number, made)
+}
+
+pub fn read_pieces(stream: &[u8], lengths: &[usize], ends: bool, words: &mut [u16]) -> Report {
+    let (s, size, l, count) = (stream.as_ptr(), stream.len(), lengths.as_ptr(), lengths.len());
+    let mut out = [0; 5];
+    unsafe { our_read_pieces(s, size, l, count, ends, words.as_mut_ptr(), words.len(), &mut out) };
+    let [state, number, transfer, stored, offset] = out;
+    match state {
+        0 => Report::Provisional,
+        1 => Report::Accepted(transfer as u16),
+        _ => Report::Refused(number as u16, stored, offset),
+    }
 }
 
 pub fn run(d: &mut [u16], v: usize, requests: &[Request], answers: &mut [Answer]) -> u16 {

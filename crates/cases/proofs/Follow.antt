@@ -1,5 +1,5 @@
 -- A run that has ended follows on whatever was before it, and so does one that has only read or written; and one step follows on another that went
--- on.
+-- on, or that has only read or written.
 use Prim.Native.Nat.{ℕ}
 use mathlib.Core.Path.{_≡_, _∙_}
 use mathlib.Core.Bool.{Bool, true}
@@ -16,6 +16,9 @@ ended-follows s r e =
 
 pub passed-follows : (s r : State) {n : ℕ} {goes : Bool} → Passed s n goes r → Follows s r
 passed-follows s r p = record { words = omega arith; same = λ h. (p .words, p .blocks) }
+
+pub passed-further : (s m r : State) {n : ℕ} {goes : Bool} → Passed s n goes m → Follows m r → Follows s r
+passed-further s m r p f = record { words = omega arith; same = λ h. (f .same h .0 ∙ p .words, f .same h .1 ∙ p .blocks) }
 
 pub goes-further : (s m r : State) → m .going ≡ true → Follows s m → Follows m r → Follows s r
 goes-further s m r g e f =

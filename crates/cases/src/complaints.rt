@@ -14,6 +14,7 @@ pub enum Why {
     Bytes,
     Memory,
     Output,
+    Piece,
 }
 
 // How the line begins that speaks of it. Whether it got out is no matter: the run ends anyway.
@@ -29,6 +30,10 @@ pub(crate) fn complain(why: Why) -> bool {
         Why::Bytes => io::write_all(fd, b"conformance: more bytes than 100,000, "),
         Why::Memory => io::write_all(fd, b"conformance: a memory of more words than 40,000, "),
         Why::Output => io::write_all(fd, b"conformance: room for more bytes than 70,000, "),
+        Why::Piece => io::write_all(
+            fd,
+            b"conformance: a piece of more bytes than the stream has left, ",
+        ),
     }
 }
 

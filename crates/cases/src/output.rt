@@ -9,7 +9,7 @@ ghost use Prim.Native.Nat.{_≤_, _<_};
 ghost use Rattle.cases.specs.Runs.{Passed};
 ghost use Rattle.cases.specs.Lines.{numbersOf, Added, check};
 
-// A word of five letters, six numbers that are words and one of up to twenty digits, each with a byte before it, have room.
+// A word of six letters, six numbers that are words and three of up to twenty digits, each with a byte before it, have room.
 const ROOM: usize = 128;
 
 // The divisor of the check: the largest prime below 65,536.

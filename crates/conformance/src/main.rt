@@ -1,7 +1,6 @@
 // Runs a case file, read from standard input, through the door, and writes a line for each of its records. The file is made of words, low
 // byte first; a record is its type and the words that the type asks for. Each record is read when its turn comes, so a file may be of any
 // length. What can't be understood stops the run, with one line on standard error that says what it was and at which byte.
-mod batches;
 mod changes;
 mod records;
 
@@ -24,7 +23,7 @@ fn head_bytes(number: u16) -> usize
         2 => 2,
         3 => 28,
         7 | 8 | 100 => 4,
-        9 => 10,
+        9 | 10 => 10,
         11 => 20,
         101 => 2,
         _ => 0,
@@ -51,7 +50,7 @@ fn take_own(d: &mut [u16], state: State, head: &[u8]) -> State
 {
     let number = word_at(head, 0);
     match number {
-        100 => batches::take_batch(d, state, head),
+        100 => batchcases::take_batch(d, state, head),
         101 => changes::take_changes(d, state, head),
         _ => refused(Why::Type, number as u32, state, 2),
     }
@@ -64,7 +63,7 @@ fn take_later(d: &mut [u16], state: State, head: &[u8]) -> State
 {
     match word_at(head, 0) {
         7 | 8 => labelcases::take_block(state, head),
-        9 | 11 => loadcases::take_memory(state, head),
+        9 | 10 | 11 => loadcases::take_memory(state, head),
         _ => take_own(d, state, head),
     }
 }

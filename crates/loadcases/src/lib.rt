@@ -1,5 +1,8 @@
-// Types 9 and 11 of a case file (docs/CASES.md): a load file read into a memory, and written from one. The present directory has no part in it. Both
-// begin with a memory. Each big room stands in a function of its own, as facts beside it are dear to check.
+// Types 9 to 11 of a case file (docs/CASES.md): a load file read into a memory, at once or in pieces, and written from one. The present directory has no
+// part in it. All begin with a memory. Each big room stands in a function of its own, as facts beside it are dear to check.
+mod feeding;
+
+use crate::feeding::take_pieces;
 use cases::Why;
 use cases::input::BYTES;
 use cases::input::long_at;
@@ -50,8 +53,18 @@ fn show_load(words: &mut [u16], stream: &[u8], state: State) -> State
     )
 }
 
-// All bytes of the stream are read, and then the reader gets them.
-fn read_stream(words: &mut [u16], stream: &mut [u8], state: State) -> State
+// What the type asks of the stream.
+fn serve_stream(words: &mut [u16], stream: &[u8], state: State, number: u16) -> State
+    ensures { λ r. ⌜ Follows state r ⌝ }
+{
+    if number == 9 {
+        return show_load(words, stream, state);
+    }
+    take_pieces(words, stream, state)
+}
+
+// All bytes of the stream are read, and then a reader gets them.
+fn read_stream(words: &mut [u16], stream: &mut [u8], state: State, number: u16) -> State
     ensures { λ r. ⌜ Follows state r ⌝ }
 {
     let n = stream.len();
@@ -59,7 +72,7 @@ fn read_stream(words: &mut [u16], stream: &mut [u8], state: State) -> State
     if !next.going {
         return next;
     }
-    show_load(words, stream, next)
+    serve_stream(words, stream, next, number)
 }
 
 // The bytes of a stream follow the memory.
@@ -74,7 +87,7 @@ fn take_stream(words: &mut [u16], state: State, head: &[u8]) -> State
     }
     let mut room = [0u8; BYTES];
     let bytes = &mut room[..];
-    read_stream(words, &mut bytes[0..n], state)
+    read_stream(words, &mut bytes[0..n], state, word_at(head, 0))
 }
 
 fn show_save(words: &[u16], out: &mut [u8], state: State, head: &[u8]) -> State
@@ -116,21 +129,21 @@ fn serve_memory(words: &mut [u16], state: State, head: &[u8]) -> State
     ensures { λ r. ⌜ Follows state r ⌝ }
 {
     fill_memory(words, word_at(head, 4), word_at(head, 6));
-    if word_at(head, 0) == 9 {
-        return take_stream(words, state, head);
+    if word_at(head, 0) == 11 {
+        return take_range(words, state, head);
     }
-    take_range(words, state, head)
+    take_stream(words, state, head)
 }
 
 // How many bytes there are from the memory's count to the end of the head.
 fn behind_type(number: u16) -> usize {
-    if number == 9 {
-        return 10;
+    if number == 11 {
+        return 20;
     }
-    20
+    10
 }
 
-// Both types begin with a memory.
+// All three types begin with a memory.
 pub fn take_memory(state: State, head: &[u8]) -> State
     requires { ⌜ length (now head) ≡ 30 ⌝ }
     ensures { λ r. ⌜ Follows state r ⌝ }

@@ -74,7 +74,7 @@ put-other m a b x h n =
     (λ k. rw (set-out m (a / 2) (withByte (getD m (a / 2) 0) a b) k))
     (either-side (a / 2) (length m))
 
-length-put : (m : List ℕ) (a b : ℕ) → length (putByte a b m) ≡ length m
+pub length-put : (m : List ℕ) (a b : ℕ) → length (putByte a b m) ≡ length m
 unfolding putByte
 length-put m a b = length-set m (a / 2) (withByte (getD m (a / 2) 0) a b)
 

@@ -88,7 +88,7 @@ counted s e =
     (enough 4 s (four .0), ltb-false (countOf s) 6 (fails (ltb (countOf s) 6) 28 0 (λ f. omega arith) (four .1) .0))
 
 -- and the other way: nothing refuses it
-is-long : (n : ℕ) (s : List ℕ) → n ≤ length s → isShort n s ≡ false
+pub is-long : (n : ℕ) (s : List ℕ) → n ≤ length s → isShort n s ≡ false
 unfolding isShort
 is-long n s h = le-ltb (length s) n h
 

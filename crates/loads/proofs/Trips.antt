@@ -24,7 +24,7 @@ pub length-block : (a : ℕ) (ds : List ℕ) → length (block a ds) ≡ 7 + len
 unfolding block body
 length-block a ds = let e = length-append ds (checksum (body a ds) ∷ []) in omega arith
 
-total-both : (xs ys : List ℕ) → byteSum (xs ++ ys) ≡ byteSum xs + byteSum ys
+pub total-both : (xs ys : List ℕ) → byteSum (xs ++ ys) ≡ byteSum xs + byteSum ys
 unfolding byteSum
 total-both [] ys = omega arith
 total-both (x ∷ xs) ys = let e = total-both xs ys in omega arith

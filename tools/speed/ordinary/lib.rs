@@ -9,6 +9,7 @@ mod files;
 mod label;
 mod listing;
 mod loads;
+mod pieces;
 mod sound;
 mod words;
 
@@ -18,6 +19,7 @@ pub use files::{abandon, close, delete, lookup, protect, rename, unprotect};
 pub use label::{read_label, write_label};
 pub use listing::{listing, ROOM};
 pub use loads::{load, save};
+pub use pieces::{read_pieces, Report};
 pub use sound::fault;
 pub use words::FILE_BAD;
 

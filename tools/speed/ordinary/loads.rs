@@ -5,7 +5,7 @@
 const FULL: usize = 128;
 
 /// How many bytes of the memory a load file can have.
-fn size_of(words: &[u16]) -> usize {
+pub(crate) fn size_of(words: &[u16]) -> usize {
     (2 * words.len()).min(65536)
 }
 
@@ -14,11 +14,11 @@ fn file_size(count: usize) -> usize {
     count + 7 * count.div_ceil(FULL) + 7
 }
 
-fn sum(bytes: &[u8]) -> u8 {
+pub(crate) fn sum(bytes: &[u8]) -> u8 {
     bytes.iter().fold(0, |sum, &byte| sum.wrapping_add(byte))
 }
 
-fn pair(low: u8, high: u8) -> usize {
+pub(crate) fn pair(low: u8, high: u8) -> usize {
     u16::from_le_bytes([low, high]) as usize
 }
 
@@ -63,7 +63,7 @@ fn check(mut rest: &[u8], size: usize) -> Result<u16, u16> {
 }
 
 /// Bytes into the memory: whole words where the address is even, and single bytes at odd ends.
-fn put(words: &mut [u16], address: usize, mut bytes: &[u8]) {
+pub(crate) fn put(words: &mut [u16], address: usize, mut bytes: &[u8]) {
     let mut words = &mut words[address / 2..];
     if address % 2 == 1 {
         words[0] = u16::from_le_bytes([words[0] as u8, bytes[0]]);

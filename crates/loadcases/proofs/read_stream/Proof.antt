@@ -1,4 +1,4 @@
--- `read_stream` meets its contract: the run ends, or the reader's line follows on the bytes of the stream (law `goes-further`).
+-- `read_stream` meets its contract: the run ends, or a reader's line follows on the bytes of the stream (law `goes-further`).
 use borrow.Author.Needs.{needs}
 use borrow.Author.Tests.{not-false}
 use Rattle.cases.proofs.Follow.{goes-further}
@@ -14,8 +14,8 @@ same-length c = search needs
 returns : tie.Need-returns
 returns c = search needs
 
-show-load-requires : tie.Need-show-load-requires
-show-load-requires c κs = search needs
+serve-stream-requires : tie.Need-serve-stream-requires
+serve-stream-requires c κs = search needs
 
 same-length-2 : tie.Need-same-length-2
 same-length-2 c = search needs
@@ -28,7 +28,7 @@ returns-2 c =
     let s = c .before .before in
     let i = s .before .before .before in
     let r = i .before .before .before .before in
-    goes-further _ _ _ (not-false _ (i .if1 .left)) (r .read-counted .ensures) (s .show-load .ensures)
+    goes-further _ _ _ (not-false _ (i .if1 .left)) (r .read-counted .ensures) (s .serve-stream .ensures)
 
 pub read-stream-spec : {M : Type 1} → statement M
 read-stream-spec =
@@ -37,7 +37,7 @@ read-stream-spec =
     read-counted-requires
     same-length
     returns
-    show-load-requires
+    serve-stream-requires
     same-length-2
     same-length-3
     returns-2)

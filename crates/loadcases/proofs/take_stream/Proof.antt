@@ -28,6 +28,9 @@ part-bytes-start c = search needs
 part-bytes-end : tie.Need-part-bytes-end
 part-bytes-end c = search needs
 
+word-at-requires : tie.Need-word-at-requires
+word-at-requires c κs = search needs
+
 read-stream-requires : tie.Need-read-stream-requires
 read-stream-requires c κs = search needs
 
@@ -49,6 +52,7 @@ take-stream-spec =
     sub-read-stream
     part-bytes-start
     part-bytes-end
+    word-at-requires
     read-stream-requires
     same-length
     returns-2)

@@ -1,17 +1,17 @@
--- `known` is safe and ends: each request that is looked at is one of the eight that there is room for.
+-- `known` meets its contract: each request that is looked at is one of the eight that there is room for, and the run ends or stands where it stood.
 use borrow.Author.Needs.{needs}
 use Prim.Native.Nat.{_≤_, _-_}
-use Rattle.conformance.proofs.batches.known.Statement.{statement}
-use Rattle.conformance.proofs.batches.known.Tie as tie
+use native.Mathlib.Omega.{arith}
+use mathlib.Core.Path.{refl}
+use Rattle.cases.proofs.Follow.{ended-follows}
+use Rattle.batchcases.proofs.known.Statement.{statement}
+use Rattle.batchcases.proofs.known.Tie as tie
 
 abbrev Inv-loop : tie.InvT-loop
 Inv-loop bytes state count i₀ i = (i ≤ count) × (count ≤ 8)
 
 abbrev μ-loop : tie.MeasureT-loop
 μ-loop bytes state count i₀ i = count - i
-
-returns : tie.Need-returns Inv-loop μ-loop
-returns c = search needs
 
 loop-holds : tie.Need-loop-holds Inv-loop μ-loop
 loop-holds c = search needs
@@ -37,8 +37,8 @@ mul-refused c = search needs
 refused-requires : tie.Need-refused-requires Inv-loop μ-loop
 refused-requires c κs = search needs
 
-returns-2 : tie.Need-returns-2 Inv-loop μ-loop
-returns-2 c = search needs
+returns : tie.Need-returns Inv-loop μ-loop
+returns c = ended-follows _ _ (c .refused .ensures)
 
 add-i : tie.Need-add-i Inv-loop μ-loop
 add-i c = search needs
@@ -49,8 +49,8 @@ loop-less c = search needs
 loop-again : tie.Need-loop-again Inv-loop μ-loop
 loop-again c = search needs
 
-returns-3 : tie.Need-returns-3 Inv-loop μ-loop
-returns-3 c = search needs
+returns-2 : tie.Need-returns-2 Inv-loop μ-loop
+returns-2 c = record { words = omega arith; same = λ h. (refl, refl) }
 
 pub known-spec : {M : Type 1} → statement M
 known-spec =
@@ -58,7 +58,6 @@ known-spec =
     (tie.spec
     Inv-loop
     μ-loop
-    returns
     loop-holds
     mul-word-at
     word-at-requires
@@ -67,8 +66,8 @@ known-spec =
     sub-refused
     mul-refused
     refused-requires
-    returns-2
+    returns
     add-i
     loop-less
     loop-again
-    returns-3)
+    returns-2)

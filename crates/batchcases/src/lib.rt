@@ -1,4 +1,4 @@
-// Type 100: a batch.
+// Type 100 of a case file (docs/CASES.md): a batch on the present directory.
 use batch::Part;
 use batch::run_some;
 use cases::Why;
@@ -16,18 +16,16 @@ use meaning::Request;
 ghost use mathlib.Core.Path.{_≡_};
 ghost use Prim.Native.Nat.{_≤_};
 ghost use lib.ListN.{length};
+ghost use Rattle.cases.specs.Runs.{Follows};
 
 // Room for eight requests of 28 bytes.
 const ROOM: usize = 224;
 
-// Ends the run at the first request that is none of those that there are, unless it has ended already.
+// Ends the run at the first request that is none of those that there are.
 fn known(bytes: &[u8], state: State, count: usize) -> State
-    requires { ⌜ (length (now bytes) ≡ 224) × (state .words ≤ 15872) × (count ≤ 8) ⌝ }
-    ensures { λ r. ⌜ r .words ≤ 15872 ⌝ }
+    requires { ⌜ (length (now bytes) ≡ 224) × (count ≤ 8) ⌝ }
+    ensures { λ r. ⌜ Follows state r ⌝ }
 {
-    if !state.going {
-        return state;
-    }
     let mut i = 0;
     while i < count {
         let number = word_at(bytes, 28 * i);
@@ -61,8 +59,7 @@ fn no_answers() -> [Answer; 8] {
 
 // One answer of a batch, without a check.
 fn write_one(state: State, answer: Answer) -> State
-    requires { ⌜ state .words ≤ 15872 ⌝ }
-    ensures { λ r. ⌜ r .words ≤ 15872 ⌝ }
+    ensures { λ r. ⌜ Follows state r ⌝ }
 {
     let numbers = numbers_of(answer, 0);
     let line = &numbers[..];
@@ -71,8 +68,8 @@ fn write_one(state: State, answer: Answer) -> State
 
 // The first answers of a batch, so many.
 fn write_answers(start: State, answers: [Answer; 8], count: usize) -> State
-    requires { ⌜ (start .words ≤ 15872) × (count ≤ 8) ⌝ }
-    ensures { λ r. ⌜ r .words ≤ 15872 ⌝ }
+    requires { ⌜ count ≤ 8 ⌝ }
+    ensures { λ r. ⌜ Follows start r ⌝ }
 {
     let mut state = start;
     let mut i = 0;
@@ -88,8 +85,8 @@ fn write_answers(start: State, answers: [Answer; 8], count: usize) -> State
 
 // A batch's number and the check over the directory as it now stands; its answers, where the number is 0.
 fn write_batch(words: &[u16], state: State, part: Part, count: usize) -> State
-    requires { ⌜ (state .words ≤ 15872) × (count ≤ 8) ⌝ }
-    ensures { λ r. ⌜ r .words ≤ 15872 ⌝ }
+    requires { ⌜ count ≤ 8 ⌝ }
+    ensures { λ r. ⌜ Follows state r ⌝ }
 {
     let numbers = [part.number as u64, check_of(words)];
     let next = write_line(state, b"batch", &numbers);
@@ -103,7 +100,7 @@ fn write_batch(words: &[u16], state: State, part: Part, count: usize) -> State
 // The batch on the present directory, and its lines.
 fn serve_batch(d: &mut [u16], state: State, bytes: &[u8], count: usize, room: usize) -> State
     requires { ⌜ (length (now d) ≡ 15872) × (state .words ≤ 15872) × (length (now bytes) ≡ 224) × (count ≤ 8) ⌝ }
-    ensures { λ r. ⌜ r .words ≤ 15872 ⌝ }
+    ensures { λ r. ⌜ Follows state r ⌝ }
 {
     let n = state.words;
     let part = run_some(
@@ -120,11 +117,14 @@ fn serve_batch(d: &mut [u16], state: State, bytes: &[u8], count: usize, room: us
 // So many requests, with room for so many answers.
 fn take_requests(d: &mut [u16], state: State, count: usize, room: usize) -> State
     requires { ⌜ (length (now d) ≡ 15872) × (state .words ≤ 15872) × (count ≤ 8) ⌝ }
-    ensures { λ r. ⌜ r .words ≤ 15872 ⌝ }
+    ensures { λ r. ⌜ Follows state r ⌝ }
 {
     let mut record = [0u8; ROOM];
     let bytes = &mut record[..];
     let read = read_bytes(&mut bytes[0..28 * count], state, false);
+    if !read.going {
+        return read;
+    }
     let next = known(bytes, read, count);
     if !next.going {
         return next;
@@ -133,9 +133,9 @@ fn take_requests(d: &mut [u16], state: State, count: usize, room: usize) -> Stat
 }
 
 // The room for answers, how many requests there are, and the requests.
-pub(crate) fn take_batch(d: &mut [u16], state: State, head: &[u8]) -> State
+pub fn take_batch(d: &mut [u16], state: State, head: &[u8]) -> State
     requires { ⌜ (length (now d) ≡ 15872) × (state .words ≤ 15872) × (length (now head) ≡ 30) ⌝ }
-    ensures { λ r. ⌜ r .words ≤ 15872 ⌝ }
+    ensures { λ r. ⌜ Follows state r ⌝ }
 {
     let room = word_at(head, 2);
     if room > 8 {

@@ -1,20 +1,25 @@
--- `write_answers` is safe and ends: each answer that is written is one of the eight, and the present words stay within those kept.
+-- `write_answers` meets its contract: each answer that is written is one of the eight, and its line follows on what went on (law `goes-further`).
 use borrow.Author.Needs.{needs}
 use Prim.Native.Nat.{_≤_, _-_}
-use Rattle.conformance.proofs.batches.write_answers.Statement.{statement}
-use Rattle.conformance.proofs.batches.write_answers.Tie as tie
+use native.Mathlib.Omega.{arith}
+use mathlib.Core.Path.{refl}
+use borrow.Author.Tests.{not-false}
+use Rattle.cases.specs.Runs.{Follows}
+use Rattle.cases.proofs.Follow.{goes-further}
+use Rattle.batchcases.proofs.write_answers.Statement.{statement}
+use Rattle.batchcases.proofs.write_answers.Tie as tie
 
 abbrev Inv-loop : tie.InvT-loop
-Inv-loop count answers state₀ i₀ state i = (i ≤ count) × (count ≤ 8) × (state .words ≤ 15872)
+Inv-loop count answers state₀ i₀ state i = (i ≤ count) × (count ≤ 8) × Follows state₀ state
 
 abbrev μ-loop : tie.MeasureT-loop
 μ-loop count answers state₀ i₀ state i = count - i
 
 loop-holds : tie.Need-loop-holds Inv-loop μ-loop
-loop-holds c = search needs
+loop-holds c = (omega arith, c .pre, record { words = omega arith; same = λ h. (refl, refl) })
 
 returns : tie.Need-returns Inv-loop μ-loop
-returns c = search needs
+returns c = c .before .before .before .loop .inv .2
 
 mul-write-one : tie.Need-mul-write-one Inv-loop μ-loop
 mul-write-one c = search needs
@@ -32,10 +37,12 @@ loop-less : tie.Need-loop-less Inv-loop μ-loop
 loop-less c = search needs
 
 loop-again : tie.Need-loop-again Inv-loop μ-loop
-loop-again c = search needs
+loop-again c =
+    let i = c .before .before .before .before .before .loop .inv in
+    (omega arith, i .1, goes-further _ _ _ (not-false _ (c .before .before .if1 .left)) (i .2) (c .write-one .ensures))
 
 returns-2 : tie.Need-returns-2 Inv-loop μ-loop
-returns-2 c = search needs
+returns-2 c = c .before .loop .inv .2
 
 pub write-answers-spec : {M : Type 1} → statement M
 write-answers-spec =

@@ -1,0 +1,9 @@
+pub mod Runs
+pub mod Headers
+pub mod Says
+pub mod Heads
+pub mod Numbers
+pub mod Sums
+pub mod Whole
+pub mod Laws
+pub mod Examples

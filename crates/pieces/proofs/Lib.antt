@@ -1,0 +1,4 @@
+pub mod Headers
+pub mod Turns
+pub mod Determined
+pub mod Calls
