@@ -1,13 +1,14 @@
-"""Writes case files (docs/CASES.md) and the lines that a right program writes for them, by the rules of rt11.py, home.py and loads.py.
-There is nothing to run here: cases.py and what it uses do.
+"""Writes case files (docs/CASES.md) and the lines that a right program writes for them, by the rules of rt11.py, squeezing.py, home.py and
+loads.py. There is nothing to run here: cases.py and what it uses do.
 """
 import struct
 
 import home
 import loads
 import rt11
+import squeezing
 
-END, LOAD, FRESH, REQUEST, READ_LABEL, WRITE_LABEL, READ_LOAD, READ_PIECES, WRITE_LOAD = 0, 1, 2, 3, 7, 8, 9, 10, 11
+END, LOAD, FRESH, REQUEST, SQUEEZE, READ_LABEL, WRITE_LABEL, READ_LOAD, READ_PIECES, WRITE_LOAD = 0, 1, 2, 3, 4, 7, 8, 9, 10, 11
 BATCH, CHANGE = 100, 101  # our own
 ROOM_BYTE = 170  # in all of the output's room before a load file is written into it
 
@@ -79,6 +80,14 @@ class CaseFile:
         number, answers, self.words = rt11.batch(self.words, self.v, requests, room)
         self.lines += [f"batch {number} {rt11.check(self.words)}", *map(rt11.numbers_of, answers)]
         return number, answers
+
+    def squeeze(self, room):
+        """Answers the number and the moves."""
+        self.records += [SQUEEZE, room]
+        number, moves, self.words = squeezing.squeeze(self.words, self.v, room)
+        self.lines.append(f"squeeze {number} {len(moves)} {rt11.check(self.words)}")
+        self.lines += [f"move {rt11.numbers_of(move)}" for move in moves]
+        return number, moves
 
     def read_label(self, block):
         self.records += [READ_LABEL, *counted(block)]
@@ -177,6 +186,8 @@ def run_record(case, kind, reader):
         case.fresh(reader.word())
     elif kind == REQUEST:
         case.serve(reader.request())
+    elif kind == SQUEEZE:
+        case.squeeze(reader.word())
     elif kind == READ_LABEL:
         case.read_label(reader.block())
     elif kind == WRITE_LABEL:

@@ -7,7 +7,7 @@
 
 stdin is the outside part, the named files in this order, and then our own part: the bench examples, the evening's batches, the channels,
 the ages, the bad areas, the protected files, the places, the labels, the tapes (absolute load files), the pieces (load files that come in
-pieces), the trials and one seed of random requests. Its lines come from the model alone.
+pieces), the squeezes, the trials and one seed of random requests. Its lines come from the model alone.
 """
 import itertools
 import pathlib
@@ -24,6 +24,7 @@ import labels
 import pieces
 import places
 import requests
+import squeezes
 import tapes
 import trials
 
@@ -45,6 +46,7 @@ def own_part():
     labels.add(case)
     tapes.add(case)
     pieces.add(case)
+    squeezes.add(case)
     trials.add(case)
     requests.add(case, SEED, DIRECTORIES)
     case.end()

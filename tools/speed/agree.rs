@@ -1,6 +1,7 @@
 //! Before anything is timed: both sides must give the same answers and leave the same words, on random requests on small volumes of all
-//! forms, on damaged directories, and on load files, whole and in pieces, damaged ones too.
+//! forms, on damaged directories, on directories to squeeze, and on load files, whole and in pieces, damaged ones too.
 use crate::ours;
+use crate::squeezes;
 use crate::streams;
 use crate::volumes::{head_file, label_text, labelled_block, Random};
 use ordinary::{Answer, Name, Op, Report, Request, FILE_BAD, ROOM};
@@ -296,6 +297,47 @@ fn same_cut(cases: usize) {
     assert!([27, 28, 29, 30, 31].iter().all(|&k| refused[k] > 0), "a number was never answered: {refused:?}");
 }
 
+/// Room for the moves of a squeeze: a word short for them at times, or some too many, or any room.
+fn some_room(d: &[u16], v: usize, random: &mut Random) -> Vec<u16> {
+    let (_, count) = ordinary::squeeze(&mut d.to_vec(), v, &mut [0; 7000]);
+    let near = (3 * count + random.below(4)).saturating_sub(1);
+    streams::words([near, near, 7000, random.below(7000)][random.below(4)], random)
+}
+
+/// A squeeze on a directory that may be damaged, and after it another, which finds nothing to move.
+fn same_squeeze(random: &mut Random) -> (u16, usize) {
+    let mut volume = squeezes::any_volume(random);
+    if random.below(4) == 0 {
+        volume.words = damage(&volume.words, random);
+        volume.words.truncate(volume.words.len() - (random.below(30) == 0) as usize);
+    }
+    let (mut d, v) = (volume.words, volume.v + (random.below(30) == 0) as usize);
+    let mut list = some_room(&d, v, random);
+    let (mut e, mut room) = (d.clone(), list.clone());
+    let answer = ours::squeeze(&mut d, v, &mut list);
+    assert_eq!(answer, ordinary::squeeze(&mut e, v, &mut room), "the squeezes differ");
+    assert!(d == e, "the squeezed words differ");
+    assert!(list == room, "the moves differ");
+    if answer.0 == 0 {
+        assert_eq!(ours::squeeze(&mut d, v, &mut list), (0, 0), "a second squeeze moves");
+        assert!(d == e && list == room, "a second squeeze changes words");
+    }
+    answer
+}
+
+/// Squeezes, whose chance has no part in that of others.
+fn same_squeezes(cases: usize) {
+    let mut random = Random(5);
+    let (mut seen, mut moves) = ([0; 27], 0);
+    for _ in 0..cases {
+        let (number, count) = same_squeeze(&mut random);
+        seen[number as usize] += 1;
+        moves += count;
+    }
+    println!("The same words and moves: {cases} directories squeezed, {} of them refused, {moves} moves.", cases - seen[0]);
+    assert!([0, 1, 2, 3, 4, 5, 6, 21, 24, 26].iter().all(|&k| seen[k] > 0), "a number was never answered: {seen:?}");
+}
+
 /// Panics where the two sides differ. Says how often each number was answered.
 pub fn agree(volumes: usize) {
     let mut random = Random(1976);
@@ -313,6 +355,7 @@ pub fn agree(volumes: usize) {
     );
     assert!(faults[1..].iter().all(|&k| k > 0), "a fault was never met: {faults:?}");
     assert!([0, 7, 8, 9, 10, 11, 12, 13, 14, 15, 16, 19, 20].iter().all(|&k| seen[k] > 0), "a number was never answered: {seen:?}");
+    same_squeezes(20_000);
     same_loads(20_000);
     same_cut(20_000);
 }

@@ -6,6 +6,7 @@ mod bucket {
     include!(env!("BUCKET"));
 }
 mod ours;
+mod squeezes;
 mod streams;
 mod volumes;
 
@@ -45,14 +46,19 @@ fn turn<T: Clone, A>(ring: &[T], work: &mut [T], answers: &mut Vec<A>, clock: i3
     now(clock) - start
 }
 
-/// Both sides in turn, until the time is over; then the line of the case. A turn of milliseconds is never left alone on a busy machine, so
-/// there the thread's own time is taken.
+/// The line of a case.
+fn row(case: &str, ours: f64, ordinary: f64) {
+    println!("| {case} | {ours:.2} | {ordinary:.2} | {:.2} |", ours / ordinary);
+}
+
+/// Both sides in turn, until the time is over; then the line of the case, and its times as the answer. A turn of milliseconds is never left
+/// alone on a busy machine, so there the thread's own time is taken.
 fn compare<T: Clone + PartialEq, A: PartialEq>(
     case: &str,
     ring: &[T],
     ours: impl Fn(&mut T, usize) -> A,
     ordinary: impl Fn(&mut T, usize) -> A,
-) {
+) -> (f64, f64) {
     let (mut d, mut e) = (ring.to_vec(), ring.to_vec());
     let (mut x, mut y) = (Vec::with_capacity(ring.len()), Vec::with_capacity(ring.len()));
     let long = turn(ring, &mut d, &mut x, WALL, &ours) > 2000.0;
@@ -68,7 +74,8 @@ fn compare<T: Clone + PartialEq, A: PartialEq>(
         rounds += 1;
     }
     let calls = ring.len() as f64;
-    println!("| {case} | {:.2} | {:.2} | {:.2} |", a / calls, b / calls, a / b);
+    row(case, a / calls, b / calls);
+    (a / calls, b / calls)
 }
 
 /// How many volumes are taken in turn: with some 18,000 entries in all, no branch predictor remembers them.
@@ -158,6 +165,30 @@ fn time_batch(random: &mut Random) {
     });
 }
 
+/// A squeeze, the fault alone, and what is left of the squeeze without it.
+fn time_squeeze(case: &str, lent: &[(Vec<u16>, Vec<u16>)], v: impl Fn(usize) -> usize) {
+    let fault = compare(&format!("fault, {case}"), lent, |(d, _), k| ours::fault(d, v(k)), |(d, _), k| ordinary::fault(d, v(k)));
+    let whole = compare(
+        &format!("squeeze, {case}"),
+        lent,
+        |(d, list), k| ours::squeeze(d, v(k), list),
+        |(d, list), k| ordinary::squeeze(d, v(k), list),
+    );
+    row(&format!("squeeze without the fault, {case}"), whole.0 - fault.0, whole.1 - fault.1);
+}
+
+/// Squeezes where nearly all of 2,000 files move, and of the same directories once they are squeezed.
+fn time_squeezes(random: &mut Random) {
+    let made = |_| volumes::working(&volumes::names(Names::Shuffled, 2000, random), random);
+    let ring: Vec<Volume> = (0..8).map(made).collect();
+    let mut lent: Vec<(Vec<u16>, Vec<u16>)> = ring.iter().map(|volume| (volume.words.clone(), vec![0; 6000])).collect();
+    time_squeeze("2,000 files with areas", &lent, |k| ring[k].v);
+    let squeezed = |((d, list), volume): (&mut (Vec<u16>, Vec<u16>), &Volume)| ordinary::squeeze(d, volume.v, list).1;
+    let moves: usize = lent.iter_mut().zip(&ring).map(squeezed).sum();
+    assert!(moves > 1900 * ring.len(), "too few files move");
+    time_squeeze("2,000 files once squeezed", &lent, |k| ring[k].v);
+}
+
 fn time_listing(labelled: bool, random: &mut Random) {
     let made = |_| {
         let volume = volumes::full(31, &volumes::names(Names::Shuffled, 2201, random), false);
@@ -236,5 +267,6 @@ fn main() {
     time_label(&mut random);
     time_loads(&mut random);
     time_pieces(&mut random);
+    time_squeezes(&mut random);
     println!("\nMicroseconds for one call; {} s in all.", start.elapsed().as_secs());
 }

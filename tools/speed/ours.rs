@@ -19,6 +19,7 @@ extern "C" {
     fn our_load(stream: *const u8, size: usize, words: *mut u16, len: usize, transfer: &mut u16) -> u32;
     fn our_save(words: *const u16, len: usize, start: usize, n: usize, transfer: u16, out: *mut u8, room: usize, made: &mut usize) -> u32;
     fn our_read_pieces(s: *const u8, size: usize, lengths: *const usize, n: usize, ends: bool, d: *mut u16, len: usize, out: &mut [u64; 5]);
+    fn our_squeeze(d: *mut u16, len: usize, v: usize, list: *mut u16, room: usize, count: &mut usize) -> u32;
     // Not exported, since it takes records: called as the proved code calls it, where a slice goes as a pointer to both.
     #[link_name = "batch::run"]
     fn our_batch(d: &Lent<u16>, v: usize, requests: &Lent<Request>, answers: &Lent<Answer>) -> u32;
@@ -118,6 +119,13 @@ pub fn read_pieces(stream: &[u8], lengths: &[usize], ends: bool, words: &mut [u1
         1 => Report::Accepted(transfer as u16),
         _ => Report::Refused(number as u16, stored, offset),
     }
+}
+
+/// Number and count of moves.
+pub fn squeeze(d: &mut [u16], v: usize, list: &mut [u16]) -> (u16, usize) {
+    let mut count = 0;
+    let number = unsafe { our_squeeze(d.as_mut_ptr(), d.len(), v, list.as_mut_ptr(), list.len(), &mut count) as u16 };
+    (number, count)
 }
 
 pub fn run(d: &mut [u16], v: usize, requests: &[Request], answers: &mut [Answer]) -> u16 {

@@ -194,7 +194,6 @@ pub fn batch(volume: &Volume, names: &[Name], count: usize, random: &mut Random)
     list
 }
 
-/// A head file.
 /// A head file: of version 2 where there is a block 1 for it.
 pub fn head_file(d: &[u16], v: u16, block: Option<&[u8]>) -> Vec<u8> {
     let version = 1 + block.is_some() as u16;

@@ -15,6 +15,7 @@ pub enum Why {
     Memory,
     Output,
     Piece,
+    Moves,
 }
 
 // How the line begins that speaks of it. Whether it got out is no matter: the run ends anyway.
@@ -34,6 +35,7 @@ pub(crate) fn complain(why: Why) -> bool {
             fd,
             b"conformance: a piece of more bytes than the stream has left, ",
         ),
+        Why::Moves => io::write_all(fd, b"conformance: room for more moves than 2,300, "),
     }
 }
 

@@ -1,14 +1,13 @@
 -- A segment as a part of the slice. The words before and after the part stay, so the slice with the part written is the directory with the
--- segment replaced; and a segment replaced by itself changes nothing. Assumes nothing.
+-- segment replaced. Assumes nothing.
 use Prim.Native.Nat.{ℕ, _+_, _*_, _-_, _≤_}
 use native.Mathlib.Omega.{arith}
 use mathlib.Core.Path.{_≡_, sym, ap, _∙_}
 use mathlib.Core.List.{List, append-assoc}
 use lib.ListN.{take, drop}
-use borrow.Rule.Slice.PartMut.{putMid, postOf, post-is, put-same}
+use borrow.Rule.Slice.PartMut.{putMid, postOf, post-is}
 use Rattle.meaning.specs.Words.{segment}
 use Rattle.meaning.specs.Enter.{withSegment}
-use Rattle.chain.proofs.Links.{part-is}
 use Rattle.walks.proofs.Words.{base}
 
 -- the part of the slice that is segment s, as code cuts it
@@ -24,9 +23,3 @@ part-put d g s l =
     let z : postOf (base s) (base s + 512 - base s) d ≡ drop (512 * s) d =
     post-is (base s) (base s + 512) d (omega arith) ∙ ap (λ (i : ℕ). drop i d) k in
     rw z (sym (append-assoc (take (base s) d) g (drop (512 * s) d)))
-
-pub replaced-self : (d : List ℕ) (s : ℕ) → 1 ≤ s → withSegment d s (segment d s) ≡ d
-replaced-self d s l =
-    sym (part-put d (segment d s) s l)
-    ∙ ap (putMid (base s) (base s + 512 - base s) d) (sym (part-is d s))
-    ∙ put-same (base s) (base s + 512 - base s) d

@@ -20,7 +20,7 @@ fn head_bytes(number: u16) -> usize
 {
     match number {
         1 => 6,
-        2 => 2,
+        2 | 4 => 2,
         3 => 28,
         7 | 8 | 100 => 4,
         9 | 10 => 10,
@@ -56,7 +56,7 @@ fn take_own(d: &mut [u16], state: State, head: &[u8]) -> State
     }
 }
 
-// What the types ask for that came from outside after the first four: a label or a load file, read or written.
+// What the types ask for that came from outside and have nothing to do with the directory: a label or a load file, read or written.
 fn take_later(d: &mut [u16], state: State, head: &[u8]) -> State
     requires { ⌜ (length (now d) ≡ 15872) × (state .words ≤ 15872) × (length (now head) ≡ 30) ⌝ }
     ensures { λ r. ⌜ r .words ≤ 15872 ⌝ }
@@ -78,6 +78,7 @@ fn take_kind(d: &mut [u16], state: State, head: &[u8]) -> State
         1 => records::take_directory(d, state, head),
         2 => records::start_fresh(d, state, head),
         3 => records::take_request(d, state, head),
+        4 => squeezecases::take_squeeze(d, state, head),
         _ => take_later(d, state, head),
     }
 }

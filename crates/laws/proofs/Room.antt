@@ -39,7 +39,7 @@ use Rattle.laws.proofs.RunPlaces.{run-piece, PlacedRun, piece-run, take
 use Rattle.laws.proofs.Entering.{tidiedOf, areasOf, eligiblesOf, Entering, early, short, crowded, taken, entering}
 
 -- some area of a list passes a test
-any-append : {A : Type 0} (q : A → Bool) (xs ys : List A) → any q (xs ++ ys) ≡ any q xs || any q ys
+pub any-append : {A : Type 0} (q : A → Bool) (xs ys : List A) → any q (xs ++ ys) ≡ any q xs || any q ys
 unfolding any
 any-append q [] ys = refl
 any-append q (x ∷ xs) ys = rw (any-append q xs ys) (go (q x))

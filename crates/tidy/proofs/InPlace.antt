@@ -16,8 +16,7 @@ use Rattle.meaning.specs.Enter.{tidy, untidy, withSegment, headerOf, tidiedAt, 
 use Rattle.chain.specs.Chained.{Chained}
 use Rattle.tidy.specs.Tidied.{tidiedWords, TidyKept}
 use Rattle.tidy.proofs.Anew.{words-length, words-header, words-entries}
-use Rattle.chain.proofs.Replaced.{replaced-self}
-use Rattle.walks.proofs.Words.{segment-length, with-length, with-own, with-other}
+use Rattle.walks.proofs.Words.{segment-length, with-self, with-length, with-own, with-other}
 use Rattle.tidy.proofs.Headers.{Framed, framed-self, framed-on, slots-kept, links-kept, chained-kept}
 use Rattle.walks.proofs.Linked.{used-once, unused-never, Inside, chain-inside}
 use Rattle.walks.specs.Lists.{All}
@@ -36,7 +35,7 @@ module _ (d : List ℕ) (s : ℕ) (low : 1 ≤ s) (whole : 512 * s ≤ length d)
           → cond x (withSegment d s (render (headerOf d s) (tidy (entries d s)))) d
           ≡ withSegment d s (cond x (render (headerOf d s) (tidy (entries d s))) (segment d s))
       go true = refl
-      go false = sym (replaced-self d s low)
+      go false = sym (with-self d s low)
 
   long : length (segment d s) ≡ 512
   long = segment-length d s low whole

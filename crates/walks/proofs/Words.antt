@@ -7,7 +7,7 @@ use native.Mathlib.Nat.{add-zero, sub-zero, zero-sub, suc-sub-suc, not-suc-le-ze
 use native.Mathlib.Omega.{arith}
 use mathlib.Core.Path.{_≡_, refl, sym, ap, _∙_}
 use mathlib.Core.List.{List, [], _∷_, _++_, append-assoc}
-use lib.ListN.{length, getD, take, drop, replicate, length-append, length-take, length-drop}
+use lib.ListN.{length, getD, take, drop, replicate, length-append, length-take, length-drop, take-append-drop}
 use lib.Seq.{getD-take, getD-drop, take-take, drop-drop, take-at, drop-at, take-append-le, take-append-add, drop-append-le, drop-append-add}
 use lib.Seq.{take-nil, length-take-le}
 use Rattle.meaning.specs.Words.{segment}
@@ -96,6 +96,14 @@ header-length d s l h = length-take-le 5 (segment d s) (omega (arith, segment-le
 pub header-word : (d : List ℕ) (s j : ℕ) → j < 5 → getD (headerOf d s) j 0 ≡ getD (segment d s) j 0
 unfolding headerOf
 header-word d s j h = getD-take 5 (segment d s) j 0 h
+
+-- a segment put where it stands
+pub with-self : (d : List ℕ) (s : ℕ) → 1 ≤ s → withSegment d s (segment d s) ≡ d
+unfolding withSegment segment
+with-self d s l =
+    let e : 512 * s ≡ base s + 512 = omega arith in
+    append-assoc (take (base s) d) (take 512 (drop (base s) d)) (drop (512 * s) d)
+    ∙ (rw (e, ← (drop-drop 512 (base s) d), take-append-drop 512 (drop (base s) d)) (take-append-drop (base s) d))
 
 -- a segment put in its place
 module _ (d : List ℕ) (s : ℕ) (g : List ℕ) (low : 1 ≤ s) (high : 512 * s ≤ length d) (whole : length g ≡ 512) where

@@ -173,12 +173,6 @@ fn tidy(g: &mut [u16; 512], width: usize) {
     finish(g, to);
 }
 
-/// The marker, and zeros after it.
-fn finish(g: &mut [u16; 512], at: usize) {
-    g[at] = END;
-    g[at + 1..].fill(0);
-}
-
 /// The new entry before its area, in a segment of `count` entries that has the slots.
 fn insert(g: &mut [u16; 512], width: usize, count: usize, area: Area, new: [u16; 7]) {
     let (mut at, end, shift) = (5 + width * area.before, 5 + width * count, width * area.cost);

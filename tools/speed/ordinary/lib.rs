@@ -11,6 +11,7 @@ mod listing;
 mod loads;
 mod pieces;
 mod sound;
+mod squeeze;
 mod words;
 
 pub use batch::{run, run_each};
@@ -21,6 +22,7 @@ pub use listing::{listing, ROOM};
 pub use loads::{load, save};
 pub use pieces::{read_pieces, Report};
 pub use sound::fault;
+pub use squeeze::squeeze;
 pub use words::FILE_BAD;
 
 #[derive(Clone, Copy, Debug, PartialEq, Eq)]

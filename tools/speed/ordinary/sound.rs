@@ -72,9 +72,6 @@ fn key_of(e: &[u16; 7]) -> u64 {
     file_key(e)
 }
 
-/// The key that may stand any number of times, of a file FILE.BAD; the status is the lowest word.
-const SPARED: u64 = PERMANENT as u64 | (FILE_BAD.first as u64) << 16 | (FILE_BAD.second as u64) << 32 | (FILE_BAD.extension as u64) << 48;
-
 /// Whether a name word spells no three characters.
 #[inline(always)]
 fn is_long(e: &[u16; 7]) -> bool {

@@ -39,7 +39,12 @@ pub fn segment_mut(d: &mut [u16], number: usize) -> &mut [u16; 512] {
 
 /// The slots of a segment, each as its first seven words.
 pub fn slots(g: &[u16; 512], width: usize) -> impl Iterator<Item = &[u16; 7]> {
-    g[5..].chunks_exact(width).map(|slot| slot.first_chunk().unwrap())
+    slots_from(g, 5, width)
+}
+
+/// Those from this place on.
+pub fn slots_from(g: &[u16; 512], at: usize, width: usize) -> impl Iterator<Item = &[u16; 7]> {
+    g[at..].chunks_exact(width).map(|slot| slot.first_chunk().unwrap())
 }
 
 /// Four words as one number, the first the lowest: a load of eight bytes. The one unsafe line, since safe Rust makes four loads of it; any
@@ -53,6 +58,16 @@ pub fn four(words: [u16; 4]) -> u64 {
 #[inline(always)]
 pub fn file_key(e: &[u16; 7]) -> u64 {
     four(*e.first_chunk().unwrap()) & !(1 << 15)
+}
+
+/// The key of a file FILE.BAD, which may stand any number of times; the status is the lowest word.
+pub const SPARED: u64 =
+    PERMANENT as u64 | (FILE_BAD.first as u64) << 16 | (FILE_BAD.second as u64) << 32 | (FILE_BAD.extension as u64) << 48;
+
+/// The marker, and zeros after it.
+pub fn finish(g: &mut [u16; 512], at: usize) {
+    g[at] = END;
+    g[at + 1..].fill(0);
 }
 
 fn codes(word: u16) -> [u16; 3] {

@@ -1,0 +1,4 @@
+pub mod Moves
+pub mod Intact
+pub mod Squeeze
+pub mod Examples

@@ -1,0 +1,9 @@
+pub mod Packing
+pub mod Rewriting
+pub mod NewWay
+pub mod Pairing
+pub mod Content
+pub mod Again
+pub mod Twice
+pub mod Kept
+pub mod Whole
