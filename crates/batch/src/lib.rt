@@ -10,7 +10,7 @@ use engine::serve_known;
 use meaning::{Answer, Request};
 
 // What a batch leaves, by value: its number, and the room for answers.
-#[derive(Drop)]
+#[derive(Clone, Copy)]
 pub struct Part {
     pub number: u16,
     pub answers: [Answer; 8],

@@ -3,7 +3,7 @@
 use libc::{STDERR_FILENO, STDIN_FILENO};
 
 // What can't be taken of a word or a number.
-#[derive(Drop)]
+#[derive(Clone, Copy)]
 pub enum Why {
     Type,
     Words,

@@ -103,7 +103,7 @@ pub fn numbers_of(answer: Answer, check: u64) -> [u64; 7]
 }
 
 // Both sums of a check.
-#[derive(Drop)]
+#[derive(Clone, Copy)]
 struct Sums {
     a: u64,
     b: u64,

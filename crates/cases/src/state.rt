@@ -5,7 +5,7 @@ use crate::complaints::{Why, complain, end_complaint};
 use libc::STDERR_FILENO;
 
 // The present directory has the first `words` of the words kept, on a volume of so many blocks. `offset` counts the bytes read so far.
-#[derive(Drop)]
+#[derive(Clone, Copy)]
 pub struct State {
     pub going: bool,
     pub words: usize,

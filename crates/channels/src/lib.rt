@@ -16,7 +16,7 @@ use segment::finder::{Found, Place};
 use segment::naming::name_at;
 
 // A final length that a tentative entry allows, or none.
-#[derive(Drop)]
+#[derive(Clone, Copy)]
 pub enum Final {
     Length(u16),
     Wrong,

@@ -13,7 +13,7 @@ use segment::kinds;
 
 // Where an area stands: its segment, how many entries of the segment stand before it, and the place of its first word in the
 // directory; with its first block, its length, and the slots that an insertion before it costs.
-#[derive(Drop)]
+#[derive(Clone, Copy)]
 pub struct AreaPlace {
     pub seg: usize,
     pub before: usize,
@@ -24,7 +24,7 @@ pub struct AreaPlace {
 }
 
 // What a choice answers.
-#[derive(Drop)]
+#[derive(Clone, Copy)]
 pub enum Chosen {
     At(AreaPlace),
     Nothing,

@@ -5,7 +5,7 @@ ghost use Rattle.choice.specs.Asks.{size_by, Wanted};
 
 // What a size asks for: -1 the longest eligible area, 0 RT-11's default, 1 to 65,535 exactly so many blocks; any other is wrong.
 // Signed numbers end here: behind this enum every length is unsigned.
-#[derive(Drop)]
+#[derive(Clone, Copy)]
 pub enum Asked {
     Longest,
     Default,

@@ -10,7 +10,7 @@ use segment::kinds;
 use segment::naming::name_at;
 
 // A segment, a slot in it, both counted from 1, and the first block of an entry that stands there.
-#[derive(Drop)]
+#[derive(Clone, Copy)]
 pub struct Cursor {
     pub seg: usize,
     pub slot: usize,
@@ -18,7 +18,7 @@ pub struct Cursor {
 }
 
 // An entry: its segment and slot, the place of its first word in the directory, its first block, and its words.
-#[derive(Drop)]
+#[derive(Clone, Copy)]
 pub struct Seen {
     pub seg: usize,
     pub slot: usize,
@@ -32,7 +32,7 @@ pub struct Seen {
 }
 
 // What a step gives: an entry and the cursor past it, or that there is no more.
-#[derive(Drop)]
+#[derive(Clone, Copy)]
 pub enum Step {
     Entry(Seen, Cursor),
     End,

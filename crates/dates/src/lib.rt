@@ -12,14 +12,14 @@ const FIRST_YEAR: u16 = 1972;
 const LAST_YEAR: u16 = 2099;
 
 // The word of a day: number 0, or 9 and word 0.
-#[derive(Drop)]
+#[derive(Clone, Copy)]
 pub struct DayWord {
     pub number: u16,
     pub word: u16,
 }
 
 // The day of a word: number 0, or 9 where the word is bad; zeros where it is 0 or bad.
-#[derive(Drop)]
+#[derive(Clone, Copy)]
 pub struct WordDay {
     pub number: u16,
     pub day: u16,

@@ -13,7 +13,7 @@ use segment::copying::copy_words;
 use segment::count;
 
 // The area chosen: its segment, how many of the segment's entries stand before it, the word where its slot begins, and its cost.
-#[derive(Drop)]
+#[derive(Clone, Copy)]
 pub struct Spot {
     pub seg: usize,
     pub before: usize,

@@ -3,7 +3,7 @@ ghost use Rattle.std.specs.Prelude.{◌≡◌, ◌+◌, ◌≤◌, length};
 ghost use Rattle.label.specs.Labels.{twelve_at, are_label_bytes, without_label, label_of, put_at, labelled_with, write_number, written};
 
 // What block 1 says: number 0, or 25; whether it has the system's mark; and name and owner, which are blanks where it says none.
-#[derive(Drop)]
+#[derive(Clone, Copy)]
 pub struct Label {
     pub number: u16,
     pub labelled: bool,

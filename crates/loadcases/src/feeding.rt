@@ -11,14 +11,14 @@ use loadsteps::{Answer, Reader};
 use pieces::{answer_of, begin, feed, finish};
 
 // The length of a piece, and the run behind it.
-#[derive(Drop)]
+#[derive(Clone, Copy)]
 struct Length {
     state: State,
     count: usize,
 }
 
 // The reader of the pieces so far, and where the run stands.
-#[derive(Drop)]
+#[derive(Clone, Copy)]
 struct Fed {
     state: State,
     reader: Reader,

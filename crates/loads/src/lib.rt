@@ -4,7 +4,7 @@ pub mod blocks;
 pub mod memory;
 
 // What a stream goes on with, at a place where a block should start.
-#[derive(Drop)]
+#[derive(Clone, Copy)]
 pub enum Part {
     // a zero byte between blocks
     Gap,
@@ -17,14 +17,14 @@ pub enum Part {
 }
 
 // What the reader answers: 0 and the transfer address, or the number of the refusal and 0.
-#[derive(Drop)]
+#[derive(Clone, Copy)]
 pub struct Loaded {
     pub number: u16,
     pub transfer: u16,
 }
 
 // What the writer answers: 0 and how many bytes it made, or the number of the refusal and 0. A full memory makes more than 65,535.
-#[derive(Drop)]
+#[derive(Clone, Copy)]
 pub struct Saved {
     pub number: u16,
     pub count: usize,

@@ -3,7 +3,7 @@
 pub mod steps;
 
 // Which byte is due, with what the block's header has said so far.
-#[derive(Drop)]
+#[derive(Clone, Copy)]
 pub enum Phase {
     // byte 1 of a block, or a zero between blocks
     Start,
@@ -27,7 +27,7 @@ pub enum Phase {
 }
 
 // What a phase comes to: no data byte is due; so many are, from this address on; or the file is decided.
-#[derive(Drop)]
+#[derive(Clone, Copy)]
 pub enum Role {
     Passing,
     Storing(usize, usize),
@@ -37,7 +37,7 @@ pub enum Role {
 
 // A reader between two bytes: which byte is due; the sum of all bytes so far, modulo 256; how many data bytes were stored; and how many bytes were
 // passed. The byte that shows a fault is not passed, so that `offset` is then its own.
-#[derive(Drop)]
+#[derive(Clone, Copy)]
 pub struct Reader {
     pub phase: Phase,
     pub sum: u8,
@@ -47,7 +47,7 @@ pub struct Reader {
 
 // What a reader answers: nothing final yet; the transfer address; or the number of the refusal, how many data bytes were stored, and the offset of the
 // byte that showed it.
-#[derive(Drop)]
+#[derive(Clone, Copy)]
 pub enum Answer {
     Provisional,
     Accepted(u16),

@@ -19,7 +19,7 @@ pub const PROTECTED: u16 = 33792;
 pub const CHANNEL_LIMIT: u16 = 255;
 
 // What a status word says of its slot.
-#[derive(Drop)]
+#[derive(Clone, Copy)]
 pub enum Kind {
     Tentative,
     Empty,
@@ -29,7 +29,7 @@ pub enum Kind {
 }
 
 // Which request is made.
-#[derive(Drop)]
+#[derive(Clone, Copy)]
 pub enum Op {
     Lookup,
     Enter,
@@ -42,7 +42,7 @@ pub enum Op {
 }
 
 // A name as three words: six characters in two words, the extension in the third.
-#[derive(Drop)]
+#[derive(Clone, Copy)]
 pub struct Name {
     pub first: u16,
     pub second: u16,
@@ -70,14 +70,14 @@ pub fn is_spared(name: Name) -> bool
 }
 
 // What an entry is known by: a permanent file by its name, a tentative entry by its channel word.
-#[derive(Drop)]
+#[derive(Clone, Copy)]
 pub enum Key {
     File(Name),
     Open(u16),
 }
 
 // One request of a batch. A request passes over the fields that it has no use for.
-#[derive(Drop)]
+#[derive(Clone, Copy)]
 pub struct Request {
     pub op: Op,
     pub name: Name,
@@ -90,14 +90,14 @@ pub struct Request {
 }
 
 // Where an entry is: its segment and slot, both counted from 1.
-#[derive(Drop)]
+#[derive(Clone, Copy)]
 pub struct Position {
     pub segment: u16,
     pub slot: u16,
 }
 
 // The answer to a request: 0 and the entry concerned, where it is after the request, or the number of the refusal and zeros.
-#[derive(Drop)]
+#[derive(Clone, Copy)]
 pub struct Answer {
     pub number: u16,
     pub first: u16,

@@ -5,7 +5,7 @@ pub mod anew;
 pub mod slots;
 
 // How far the entries are laid: the block after the last of them, and how many of the first blocks are dealt out.
-#[derive(Drop)]
+#[derive(Clone, Copy)]
 pub struct LaidTo {
     pub block: usize,
     pub next: usize,

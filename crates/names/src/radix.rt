@@ -12,7 +12,7 @@ const ALPHABET: [u8; 40] = [
 ];
 
 // The three words of a text: number 0, or 7 and zeros.
-#[derive(Drop)]
+#[derive(Clone, Copy)]
 pub struct NameWords {
     pub number: u16,
     pub first: u16,
@@ -21,14 +21,14 @@ pub struct NameWords {
 }
 
 // The text of three words: number 0, or 7 and blanks.
-#[derive(Drop)]
+#[derive(Clone, Copy)]
 pub struct NameText {
     pub number: u16,
     pub text: [u8; 9],
 }
 
 // Where a field stands: in its characters, in the spaces after them, or it is wrong.
-#[derive(Drop)]
+#[derive(Clone, Copy)]
 pub enum Field {
     Characters,
     Spaces,

@@ -7,7 +7,7 @@ pub mod moves;
 
 // Where a walk over a segment's entries comes to: the place of the next words in the segment's new words, that of the next move in the list, and
 // the next free block.
-#[derive(Drop)]
+#[derive(Clone, Copy)]
 pub struct Place {
     pub at: usize,
     pub listed: usize,

@@ -9,7 +9,7 @@ use loadsteps::steps::{pair, role_of, step, up_by};
 use loadsteps::{Phase, Reader, Role};
 
 // How many bytes a turn took, and the reader behind them.
-#[derive(Drop)]
+#[derive(Clone, Copy)]
 pub(crate) struct Turn {
     pub(crate) reader: Reader,
     pub(crate) count: usize,

@@ -9,7 +9,7 @@ use cursor::{Cursor, Seen, Step};
 use directory::sound;
 
 // The directory, a place in it (a segment and a slot), and the number of the directory's fault, 0 for none.
-#[derive(Drop)]
+#[derive(Clone, Copy)]
 pub struct Reader<'a> {
     pub words: &'a [u16],
     pub cursor: Cursor,
@@ -17,7 +17,7 @@ pub struct Reader<'a> {
 }
 
 // What is read: an entry, that there is no more, or the number of the directory's fault.
-#[derive(Drop)]
+#[derive(Clone, Copy)]
 pub enum Read {
     Entry(Seen),
     End,

@@ -11,7 +11,7 @@ use meaning::{EMPTY, END, Name, TENTATIVE};
 use segment::copying::{clear_from, move_up, put_words};
 
 // The words of the new entry: name, length in blocks, channel word and date.
-#[derive(Drop)]
+#[derive(Clone, Copy)]
 pub struct Tentative {
     pub name: Name,
     pub length: u16,

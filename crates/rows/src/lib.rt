@@ -10,7 +10,7 @@ use cursor::{Seen, Step};
 use meaning::Kind;
 
 // The blocks of permanent, of tentative and of empty entries.
-#[derive(Drop)]
+#[derive(Clone, Copy)]
 pub struct Totals {
     pub files: usize,
     pub opened: usize,

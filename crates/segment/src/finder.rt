@@ -9,7 +9,7 @@ use meaning::Key;
 
 // Where an entry stands: its segment and slot, both counted from 1, the place of its first word in the directory, and its first
 // block; with the status, length and date of its entry, which requests ask for.
-#[derive(Drop)]
+#[derive(Clone, Copy)]
 pub struct Place {
     pub seg: usize,
     pub slot: usize,
@@ -21,7 +21,7 @@ pub struct Place {
 }
 
 // What a search answers.
-#[derive(Drop)]
+#[derive(Clone, Copy)]
 pub enum Found {
     At(Place),
     Nothing,

@@ -10,7 +10,7 @@ use crate::naming::name_at;
 use meaning::Name;
 
 // What one slot says: a fault, the marker, or an entry, with its length and whether it is tentative.
-#[derive(Drop)]
+#[derive(Clone, Copy)]
 pub enum Step {
     Bad,
     Marker,
@@ -18,7 +18,7 @@ pub enum Step {
 }
 
 // What a segment's slots say: a fault by rule 4, or how many entries stand before the marker, and the sum of their lengths.
-#[derive(Drop)]
+#[derive(Clone, Copy)]
 pub enum Scan {
     Fault,
     Sum(usize, usize),

@@ -13,7 +13,7 @@ use names::{is_legal_name, text_of_words, words_of_text};
 const PRIME: u32 = 65521;
 
 // One more than the sum of the numbers; and the sum of all that this came to on the way, by which their order counts.
-#[derive(Drop)]
+#[derive(Clone, Copy)]
 struct Sum {
     pub low: u16,
     pub high: u16,

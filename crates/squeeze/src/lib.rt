@@ -11,7 +11,7 @@ use tally::open::open_chain;
 use tally::survey::survey_chain;
 
 // 0 and how many moves are listed, three words each, or the number of the refusal and 0.
-#[derive(Drop)]
+#[derive(Clone, Copy)]
 pub struct Report {
     pub number: u16,
     pub count: usize,

@@ -14,7 +14,7 @@ use segment::kinds;
 
 // What all areas are like, for a least length: whether one is that long (else refusal 11), whether an eligible one is (else
 // refusal 12), and the longest and the second longest eligible length, from which a default is reckoned.
-#[derive(Drop)]
+#[derive(Clone, Copy)]
 pub struct Survey {
     pub long: bool,
     pub eligible: bool,
@@ -23,7 +23,7 @@ pub struct Survey {
 }
 
 // What is found of a directory, or of a part of it: its areas, and whether the tidy changes a word.
-#[derive(Drop)]
+#[derive(Clone, Copy)]
 pub struct Findings {
     pub areas: Survey,
     pub untidy: bool,

@@ -9,14 +9,14 @@ use segment::kinds;
 
 // Where a walk stands. Either no run is open, and a tentative entry stands directly before or not; or a run is open: the sum of its
 // lengths so far, and whether a tentative entry stands before it.
-#[derive(Drop)]
+#[derive(Clone, Copy)]
 pub enum OpenRun {
     Calm(bool),
     Within(u16, bool),
 }
 
 // What is to be known of a segment before its areas are judged: how many entries it has once it is tidied, and how many it has.
-#[derive(Drop)]
+#[derive(Clone, Copy)]
 pub struct Outline {
     pub count: usize,
     pub entries: usize,

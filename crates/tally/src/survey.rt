@@ -7,7 +7,7 @@ ghost use Rattle.tally.specs.Surveyed.{last_count, Surveyable, SurveyedTo, Chain
 use crate::tally::{Tally, tally_segment};
 
 // The next free block, the moves so far, and whether a segment so far is overfull.
-#[derive(Drop)]
+#[derive(Clone, Copy)]
 pub struct Survey {
     pub free: usize,
     pub moves: usize,

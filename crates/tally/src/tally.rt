@@ -6,7 +6,7 @@ use crate::place::place_at;
 use segment::kinds;
 
 // The next free block, the moves so far, and the entries so far of the segment at hand.
-#[derive(Drop)]
+#[derive(Clone, Copy)]
 pub struct Tally {
     pub free: usize,
     pub moves: usize,

@@ -17,7 +17,7 @@ use segment::kinds;
 
 // Where the walk over a segment's entries stands. Either no run is open, and a tentative entry stands directly before or not; or
 // a run is open: the word of its first entry, the sum of its lengths so far, and whether a tentative entry stands before it.
-#[derive(Drop)]
+#[derive(Clone, Copy)]
 enum RunAt {
     Calm(bool),
     Within(usize, usize, bool),
