@@ -1,6 +1,8 @@
 // The batch: request records one by one in slice order, each answered in its place. The borrow checker covers no function over a slice
 // of structs, so `run` and `run_part` are thin and proved by hand; `run_some`, with plain parameters, stands above them for all callers
 // that have their records in arrays.
+#![tactic(auto)]
+
 ghost use Rattle.std.specs.Prelude.{◌≡◌, ◌≤◌, min, take, drop};
 ghost use Rattle.meaning.specs.Batch.{batch};
 ghost use Rattle.batch.specs.Ran.{Ran, Left};

@@ -1,4 +1,6 @@
 // Type 100 of a case file (docs/CASES.md): a batch on the present directory.
+#![tactic(auto)]
+
 ghost use Rattle.std.specs.Prelude.{◌≡◌, ◌≤◌, length};
 ghost use Rattle.cases.specs.Runs.{Follows};
 

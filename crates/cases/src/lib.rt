@@ -1,5 +1,7 @@
 // What the records of a case file share (docs/CASES.md): bytes taken as words, numbers and requests, where a run stands, and the lines that it
 // writes. What a contract can't say, which bytes come and go, is tried by the program `conformance`.
+#![tactic(auto)]
+
 mod complaints;
 pub mod input;
 pub mod output;

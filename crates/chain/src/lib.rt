@@ -1,4 +1,6 @@
 // The chain: rule 3, which follows the links, and rules 4 and 5 in one walk along them.
+#![tactic(auto)]
+
 pub mod head;
 
 ghost use Rattle.std.specs.Prelude.{◌≡◌, ◌&&◌, ◌*◌, ◌≤◌, length, eqb};

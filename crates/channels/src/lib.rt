@@ -1,5 +1,7 @@
 // The requests on an open file, by its channel, on a directory known to be sound: abandon and close. Each is refused by its number, from 8
 // on and in the order of the numbers, or carried out. A refusal answers zeros and changes no word.
+#![tactic(auto)]
+
 ghost use Rattle.std.specs.Prelude.{◌≡◌, ◌≤◌, length};
 ghost use Rattle.meaning.specs.Sound.{fault};
 ghost use Rattle.meaning.specs.Requests.{good_channel, abandon, close};

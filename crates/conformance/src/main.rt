@@ -1,6 +1,8 @@
 // Runs a case file, read from standard input, through the door, and writes a line for each of its records. The file is made of words, low
 // byte first; a record is its type and the words that the type asks for. Each record is read when its turn comes, so a file may be of any
 // length. What can't be understood stops the run, with one line on standard error that says what it was and at which byte.
+#![tactic(auto)]
+
 mod changes;
 mod records;
 

@@ -1,6 +1,8 @@
 // The entries one by one, in chain order: a cursor stands at a slot, and a step gives the next entry and the cursor past it. So
 // nothing is walked twice. A cursor is plain numbers that anyone can make, so a step tests them, and every link that it follows.
 // Each slot is read in the 512-word part of the directory that is its segment; `width` is the words of a slot.
+#![tactic(auto)]
+
 ghost use Rattle.std.specs.Prelude.{◌≡◌, ◌+◌, ◌*◌, ◌≤◌, length};
 ghost use Rattle.meaning.specs.Words.{slot_words, slot_count};
 ghost use Rattle.cursor.specs.Cursor.{AtEntry, is_segment, inside, slot_place, is_entry, row_in, first_slot, entry_step, step_at};

@@ -1,5 +1,7 @@
 // Date words (document 01, "Names and dates"; document 02, Req 02): a calendar day, and the word that names it. Nothing here knows of
 // directories.
+#![tactic(auto)]
+
 ghost use Rattle.std.specs.Prelude.{◌≡◌, true};
 ghost use Rattle.dates.specs.Dates.{is_leap, days_in, in_calendar, packed_day, years, names_day};
 ghost use Rattle.dates.specs.Dates.{good_date, word_of_day, day_of_word};

@@ -1,5 +1,7 @@
 // The door: any words, any V and any request may be handed in. The directory's fault is tested first, and then the engine carries the request
 // out or refuses it by its number. A refusal answers zeros and changes no word.
+#![tactic(auto)]
+
 pub mod volume;
 
 ghost use Rattle.std.specs.Prelude.{◌≡◌};

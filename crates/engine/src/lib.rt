@@ -1,5 +1,7 @@
 // The engine behind the door: each request on a directory known to be sound, tested from refusal 7 on. Whoever makes many requests of one
 // directory, as a batch does, pays for the soundness test once and then calls the engine.
+#![tactic(auto)]
+
 ghost use Rattle.std.specs.Prelude.{◌≡◌};
 ghost use Rattle.meaning.specs.Sound.{fault};
 ghost use Rattle.meaning.specs.Answers.{Meets};

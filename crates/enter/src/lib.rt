@@ -1,5 +1,7 @@
 // Enter on a sound directory. Whether there is room is found on the words as they are, so that a refusal has changed no word; only
 // then is the directory tidied and the new entry put into its area, all in place.
+#![tactic(auto)]
+
 ghost use Rattle.std.specs.Prelude.{◌≡◌};
 ghost use Rattle.meaning.specs.Words.{chain};
 ghost use Rattle.meaning.specs.Sound.{fault};

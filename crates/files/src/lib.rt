@@ -1,6 +1,8 @@
 // The requests on a permanent file, by its name, on a directory known to be sound: lookup, delete, rename, protect and unprotect. Each is
 // refused by its number, from 7 on and in the order of the numbers (but for 19, which comes straight after 7, and 20, straight after 13), or
 // carried out. A refusal answers zeros and changes no word.
+#![tactic(auto)]
+
 ghost use Rattle.std.specs.Prelude.{◌≡◌};
 ghost use Rattle.meaning.specs.Sound.{fault};
 ghost use Rattle.meaning.specs.Answers.{Meets};

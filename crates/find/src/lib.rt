@@ -1,4 +1,6 @@
 // The first entry that is looked for, over the whole chain.
+#![tactic(auto)]
+
 pub mod found;
 
 ghost use Rattle.chain.specs.Chained.{Chained};

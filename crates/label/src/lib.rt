@@ -1,4 +1,6 @@
 // Block 1 of a volume (document 02, Req 01): the volume's label, read and written. Nothing here knows of directories.
+#![tactic(auto)]
+
 ghost use Rattle.std.specs.Prelude.{◌≡◌, ◌+◌, ◌≤◌, length};
 ghost use Rattle.label.specs.Labels.{twelve_at, are_label_bytes, without_label, label_of, put_at, labelled_with, write_number, written};
 

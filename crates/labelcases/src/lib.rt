@@ -1,4 +1,6 @@
 // Types 7 and 8 of a case file (docs/CASES.md): the label in block 1, read and written. The present directory has no part in it.
+#![tactic(auto)]
+
 ghost use Rattle.std.specs.Prelude.{◌≡◌, length};
 ghost use Rattle.cases.specs.Runs.{Follows};
 

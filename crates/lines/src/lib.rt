@@ -1,5 +1,7 @@
 // The pieces of the listing's text, each written into lent room from the place `at` on. Each answers the place after its bytes, and
 // asks for the room of the longest text that it can be. No number of a volume is above 65,535, so that five digits are enough.
+#![tactic(auto)]
+
 ghost use Rattle.std.specs.Prelude.{◌≡◌, ◌+◌, ◌≤◌, ◌<◌, [], ◌∷◌, ◌++◌, length};
 ghost use Rattle.meaning.specs.Kinds.{is_empty};
 ghost use Rattle.meaning.specs.Listing.{decimal, six_wide, two_digits, date_text, letter, refused_line};

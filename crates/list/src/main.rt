@@ -1,5 +1,7 @@
 // Lists the head files that its arguments name, one after the other, or with no argument the one on standard input. Where a file can't be
 // opened or read, a line on standard error says why, and the next one follows.
+#![tactic(auto)]
+
 ghost use Rattle.std.specs.Prelude.{◌≤◌, length};
 
 use libc::{STDIN_FILENO, STDOUT_FILENO};

@@ -1,4 +1,6 @@
 // The listing (document 01, "The listing"; document 02, Req 01): a head file's bytes in, its text out.
+#![tactic(auto)]
+
 mod head;
 mod words;
 

@@ -1,5 +1,7 @@
 // Types 9 to 11 of a case file (docs/CASES.md): a load file read into a memory, at once or in pieces, and written from one. The present directory has no
 // part in it. All begin with a memory. Each big room stands in a function of its own, as facts beside it are dear to check.
+#![tactic(auto)]
+
 mod feeding;
 
 ghost use Rattle.std.specs.Prelude.{◌≡◌, length};

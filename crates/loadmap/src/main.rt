@@ -1,5 +1,7 @@
 // Prints the maps of the load files that its arguments name, one after the other, or with no argument that of the one on standard input. Where a
 // file can't be opened, read or taken whole, a line on standard error says why, and the next one follows.
+#![tactic(auto)]
+
 ghost use Rattle.std.specs.Prelude.{◌≤◌, length};
 
 use libc::{STDERR_FILENO, STDIN_FILENO, STDOUT_FILENO};

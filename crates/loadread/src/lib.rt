@@ -1,5 +1,7 @@
 // The reader of absolute load files (document 02, Req 10). A whole stream is read twice: first it is checked, and nothing is stored; then, where it is
 // accepted, its data are stored.
+#![tactic(auto)]
+
 ghost use Rattle.std.specs.Prelude.{◌≡◌};
 ghost use Rattle.loads.specs.Memory.{limit};
 ghost use Rattle.loads.specs.Reading.{answer_of, stored_by, read_from, fill_from, load_answer, load_memory};

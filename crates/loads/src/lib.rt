@@ -1,5 +1,7 @@
 // Absolute load files (document 02, Req 10): what a stream goes on with, and a lent memory of words as bytes. What they mean stands in specs/. Nothing
 // here knows of directories.
+#![tactic(auto)]
+
 pub mod blocks;
 pub mod memory;
 

@@ -1,5 +1,7 @@
 // Absolute load files byte by byte (document 02, Req 11): the state of a reader between two bytes, and one byte's step. What a state means, and what a
 // run comes to, stands in specs/.
+#![tactic(auto)]
+
 pub mod steps;
 
 // Which byte is due, with what the block's header has said so far.

@@ -1,5 +1,7 @@
 // The map of a load file: a line for each data block, and a last one for what ends the file. Each routine but `map` writes into lent room from the
 // place `at` on, and answers the place after its bytes.
+#![tactic(auto)]
+
 ghost use Rattle.std.specs.Prelude.{◌≡◌, true, ◌+◌, ◌≤◌, length};
 ghost use Rattle.lines.specs.Wrote.{Wrote, WroteAtMost};
 ghost use Rattle.maps.specs.Maps.{octal_digit, octal, block_line, transfer_line, line_of, map_fits, map_text, map_answer, map_output};

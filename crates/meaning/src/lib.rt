@@ -1,4 +1,6 @@
 // The vocabulary of document 01 as plain types and named numbers. What they mean stands in specs/, under the same names.
+#![tactic(auto)]
+
 ghost use Rattle.std.specs.Prelude.{◌≡◌};
 ghost use Rattle.meaning.specs.Keys.{spared};
 ghost use Rattle.meaning.specs.Answers.{refusal, granted};

@@ -1,4 +1,6 @@
 // Names (document 01, "Names and dates"): Radix-50 words, and text as bytes. Nothing here knows of directories.
+#![tactic(auto)]
+
 pub mod radix;
 pub mod text;
 

@@ -1,6 +1,8 @@
 // A segment's words made anew: header, entries, marker, and zeros after it. The entries are given as their words, one after the
 // other, so that a half of a segment is rendered as a whole one is. Throughout, `width` is how many words a slot has, 7 + E, and `word`
 // the place in the segment where a slot begins.
+#![tactic(auto)]
+
 pub mod measure;
 
 ghost use Rattle.std.specs.Prelude.{◌≡◌, ◌+◌, ◌≤◌, ◌<◌, length};

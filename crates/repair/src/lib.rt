@@ -1,5 +1,7 @@
 // Repair of a damaged directory (document 02, Req 09): the test of a proposal, and the tool that makes one. Any words, any V and any proposal may
 // be handed in. The first blocks that are kept come from the damaged words themselves: docs/MANUAL.md tells users what that means.
+#![tactic(auto)]
+
 ghost use Rattle.std.specs.Prelude.{◌≡◌, map, length};
 ghost use Rattle.chain.specs.Chained.{Chained};
 ghost use Rattle.repaired.specs.Kept.{kept_files, same_files, beyond, passes, accepts};

@@ -1,4 +1,6 @@
 // Types 5 and 6 of a case file (docs/CASES.md): a proposal put to the test, and the tool on the present directory.
+#![tactic(auto)]
+
 ghost use Rattle.std.specs.Prelude.{◌≡◌, ◌≤◌, length};
 ghost use Rattle.cases.specs.Runs.{Follows};
 

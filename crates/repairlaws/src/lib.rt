@@ -1,1 +1,2 @@
 // What follows from the meaning of repair: statements in specs/, proofs in proofs/.
+#![tactic(auto)]

@@ -1,5 +1,7 @@
 // Each request as a call of its own: a record that is handed to the door. What the door itself has, the record of any kind, a lookup, the
 // fault and a fresh start, is passed on under this name, so that a user needs no other.
+#![tactic(auto)]
+
 ghost use Rattle.meaning.specs.Answers.{Meets};
 ghost use Rattle.meaning.specs.Requests.{delete, protect, unprotect, abandon, rename, close};
 ghost use Rattle.meaning.specs.Enter.{enter};

@@ -1,5 +1,7 @@
 // What the listing shows of the entries: a row for each, and the totals in blocks. Each is one walk with the cursor, which needs no
 // word tested again: the directory is sound by then.
+#![tactic(auto)]
+
 ghost use Rattle.std.specs.Prelude.{◌+◌, ◌≤◌, length};
 ghost use Rattle.meaning.specs.Words.{rows, all_entries};
 ghost use Rattle.meaning.specs.Listing.{rows_text};

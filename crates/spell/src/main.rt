@@ -1,6 +1,8 @@
 // Runs the crate `names` on the texts that document 000 prints with their words, and over whole ranges of words, texts and days,
 // each range as a check sum. What it must write comes from model/names.py, which was written from document 01 and not from `names`,
 // so that a definition misread in the crate's specs, which no proof would show, shows here.
+#![tactic(auto)]
+
 ghost use Rattle.std.specs.Prelude.{◌≡◌, ◌<◌, length};
 
 use dates::{day_of_word, is_good_date, word_of_day};

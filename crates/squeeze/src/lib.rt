@@ -1,5 +1,7 @@
 // Squeeze (document 02, Req 05): any words, any V and any lent list may be handed in. The directory's fault is tested first, then 21, 24 and
 // 26 on passes that only read; what is not refused is carried out on one pass more. A refusal changes no word of either slice.
+#![tactic(auto)]
+
 ghost use Rattle.std.specs.Prelude.{◌≡◌, length};
 ghost use Rattle.meaning.specs.Sound.{fault};
 ghost use Rattle.squeezed.specs.Squeeze.{squeeze};

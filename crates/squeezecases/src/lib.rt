@@ -1,4 +1,6 @@
 // Type 4 of a case file (docs/CASES.md): a squeeze of the present directory.
+#![tactic(auto)]
+
 ghost use Rattle.std.specs.Prelude.{◌≡◌, ◌+◌, ◌*◌, ◌≤◌, length};
 ghost use Rattle.cases.specs.Runs.{Follows};
 

@@ -2,5 +2,7 @@
 // is written: neighbouring empty entries count as one area, with their lengths added up, and as none where these come to 0 and no
 // tentative entry needs it. As in the crate `segment`, `width` is how many words a slot has, 7 + E, and `word` the place in the segment
 // where a slot begins.
+#![tactic(auto)]
+
 pub mod areas;
 pub mod runs;
