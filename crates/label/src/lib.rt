@@ -53,7 +53,7 @@ fn twelve_at(block: &[u8], at: usize) -> [u8; 12]
     ensures { result ≡ twelve_at at block.now }
 {
     let mut bytes = [b' '; 12];
-    bytes::copy(&block[at..at + 12], &mut bytes);
+    bytes.copy_from_slice(&block[at..at + 12]);
     bytes
 }
 
@@ -83,7 +83,7 @@ fn put_at(block: &mut [u8], at: usize, text: &[u8])
     requires { at + length text.now ≤ length block.old }
     ensures { block.new ≡ put_at at text.now block.old }
 {
-    bytes::copy(text, &mut block[at..at + text.len()]);
+    block[at..at + text.len()].copy_from_slice(text);
 }
 
 // A name, an owner and the mark put in their places.

@@ -14,9 +14,9 @@ use label::{Label, read_label, write_label};
 fn text_of(name: [u8; 12], owner: [u8; 12]) -> [u8; 39] {
     let mut text = [b' '; 39];
     let line = &mut text[..];
-    bytes::copy(b"label 0 LABEL ", &mut line[0..14]);
-    bytes::copy(&name, &mut line[14..26]);
-    bytes::copy(&owner, &mut line[27..39]);
+    line[0..14].copy_from_slice(b"label 0 LABEL ");
+    line[14..26].copy_from_slice(&name);
+    line[27..39].copy_from_slice(&owner);
     text
 }
 

@@ -3,7 +3,7 @@
 -- longest of a and the list, and with b or the second longest of a and the list: by induction on the list. Assumes nothing.
 use Prim.Native.Nat.{ℕ, ◌≤◌, ◌<◌, max}
 use native.Mathlib.Omega.{arith}
-use mathlib.Core.Path.{◌≡◌, refl, ◌∙◌}
+use mathlib.Core.Path.{◌≡◌, ap, refl, ◌∙◌}
 use mathlib.Core.Bool.{Bool, true, false, cond}
 use mathlib.Core.Logic.{⊎_elim}
 use mathlib.Core.List.{List, [], ◌∷◌}
@@ -32,7 +32,7 @@ second_short : (n : ℕ) (ns : List ℕ) → n < longest_of ns → second_of (n 
 unfolding second_of longest_of without
 second_short n ns l =
     let m : max n (longest_of ns) ≡ longest_of ns = omega arith in
-    rw (m, ne_eqb n (longest_of ns) (λ e. omega arith))
+    rw (m, ne_eqb n (longest_of ns) (λ e. omega arith)) (ap (λ (k : ℕ). max n (longest_of (without k ns))) m)
 
 second-long : (n : ℕ) (ns : List ℕ) → longest_of ns ≤ n → second_of (n ∷ ns) ≡ longest_of ns
 unfolding second_of longest_of without

@@ -1,0 +1,9 @@
+-- `twelve_at` meets its contract: the whole array is copied over (law `copied-out`).
+use borrow.Author.Rules.{rules}
+use mathlib.Core.Path.{refl}
+use Rattle.label.proofs.Labels.{copied-out}
+use Rattle.label.proofs.twelve_at.Goals as goal
+
+pub returns : goal.returns
+returns c =
+    copied-out c.args.block.now _ c.args.at c.requires refl c.copy.ensures.1
