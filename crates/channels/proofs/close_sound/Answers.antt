@@ -19,7 +19,7 @@ use Rattle.find.proofs.Behind.{open_found}
 use Rattle.channels.specs.Closing.{final_by}
 use Rattle.channels.proofs.Finals.{final-small}
 use Rattle.channels.proofs.Tested.{channel-fits, close-bad, close-none, close_wrong, close-length}
-use Rattle.channels.proofs.close_sound.Goals.{After-final_of, Else-not-is_channel, In-At-2, Start}
+use Rattle.channels.proofs.close_sound.Goals.{After-final_of, Else-not-is_channel, In-At, Start}
 use Rattle.channels.proofs.close_sound.Goals as goal
 
 -- the channel is good where its test has passed
@@ -27,18 +27,18 @@ channelled-at : (c : Else-not-is_channel) → let a = c.args in good_channel a.j
 channelled-at c = sym c.is_channel.ensures ∙ c.if-not-is_channel.false
 
 -- where its entry was found, at a place
-abbrev start : In-At-2 → Start
-start t = (goal.at.In-At-2 t).Start
+abbrev start : In-At → Start
+start t = (goal.at.In-At t).Start
 
-found_at : (t : In-At-2)
+found_at : (t : In-At)
     → let a = (start t).args in found_of (find (holds (Open (word_of a.job a.channel))) (rows a.d.now)) ≡ At t.in-At.place
 found_at t = sym t.find_entry-found.ensures.is ∙ t.in-At.is
 
 -- the final length is that of the size asked for, which comes back from the machine's word as it was
 final-at : (c : After-final_of)
-    → final_by (start (goal.at.After-final_of c).In-At-2).args.size c.in-At.place.length ≡ c.final_of.result
+    → final_by (start (goal.at.After-final_of c).In-At).args.size c.in-At.place.length ≡ c.final_of.result
 final-at c =
-    let s = start (goal.at.After-final_of c).In-At-2 in
+    let s = start (goal.at.After-final_of c).In-At in
     rw (← to_z-of_z w32 s.args.size s.fits.size) (sym c.final_of.ensures)
 
 pub returns-then-not-is_channel : goal.returns-then-not-is_channel
@@ -72,22 +72,22 @@ returns-in_default c =
 
 pub close_at-requires : goal.close_at-requires
 close_at-requires c =
-    let s = start (goal.at.close_at-requires c).In-At-2 in
-    let b = open_found s.args.d.now (word_of s.args.job s.args.channel) _ (found_at (goal.at.close_at-requires c).In-At-2) in
+    let s = start (goal.at.close_at-requires c).In-At in
+    let b = open_found s.args.d.now (word_of s.args.job s.args.channel) _ (found_at (goal.at.close_at-requires c).In-At) in
     (s.requires, record { row = b.row; is = b.is; place = b.place }, final-small s.args.size _ _ (final-at (goal.at.close_at-requires c).After-final_of ∙ c.in-Length.is))
 
 pub returns-in-Length : goal.returns-in-Length
 returns-in-Length c =
-    let a = (start (goal.at.returns-in-Length c).In-At-2).args in
+    let a = (start (goal.at.returns-in-Length c).In-At).args in
     let g = channelled-at (goal.at.returns-in-Length c).Else-not-is_channel in
-    rw (close-length a.v a.d.now (start (goal.at.returns-in-Length c).In-At-2).requires a.job a.channel a.size _ g (found_at (goal.at.returns-in-Length c).In-At-2) _ (final-at (goal.at.returns-in-Length c).After-final_of ∙ c.in-Length.is))
+    rw (close-length a.v a.d.now (start (goal.at.returns-in-Length c).In-At).requires a.job a.channel a.size _ g (found_at (goal.at.returns-in-Length c).In-At) _ (final-at (goal.at.returns-in-Length c).After-final_of ∙ c.in-Length.is))
     c.close_at.ensures
 
 pub returns-in-Wrong : goal.returns-in-Wrong
 unfolding refuse
 returns-in-Wrong c =
-    let a = (start (goal.at.returns-in-Wrong c).In-At-2).args in
+    let a = (start (goal.at.returns-in-Wrong c).In-At).args in
     let g = channelled-at (goal.at.returns-in-Wrong c).Else-not-is_channel in
     let e = final-at (goal.at.returns-in-Wrong c).After-final_of ∙ c.in-Wrong.is in
-    rw (close_wrong a.v a.d.now (start (goal.at.returns-in-Wrong c).In-At-2).requires a.job a.channel a.size _ g (found_at (goal.at.returns-in-Wrong c).In-At-2) e)
+    rw (close_wrong a.v a.d.now (start (goal.at.returns-in-Wrong c).In-At).requires a.job a.channel a.size _ g (found_at (goal.at.returns-in-Wrong c).In-At) e)
     (record { answer = c.refused-in-Wrong.ensures; words = refl })

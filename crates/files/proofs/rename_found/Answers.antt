@@ -16,7 +16,7 @@ use Rattle.chain.proofs.Chains.{fault-chained}
 use Rattle.find.proofs.Behind.{place-small}
 use Rattle.segment.proofs.Searching.{place_inside}
 use Rattle.files.proofs.Tested.{renamed-none, renamed-protected, renamed_taken, renamed-at}
-use Rattle.files.proofs.rename_found.Goals.{After-find-entry-arg2, After-is_protected, Else-is_protected, Start}
+use Rattle.files.proofs.rename_found.Goals.{After-is_protected, Else-is_protected, Start}
 use Rattle.files.proofs.rename_found.Goals as goal
 
 -- where the file of the old name was found, and is asked whether it is protected
@@ -28,7 +28,7 @@ found_at : (p : After-is_protected)
 found_at p = sym p.find_entry-found.ensures.is ∙ p.in-At.is
 
 -- where the new name is looked for, the file is not protected
-unprotected-at : (c : After-find-entry-arg2)
+unprotected-at : (c : Else-is_protected)
     → eqb c.in-At.place.status protected_status ≡ false
 unprotected-at c = sym c.is_protected.ensures ∙ c.if-is_protected.false
 
