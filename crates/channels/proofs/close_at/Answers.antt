@@ -43,12 +43,6 @@ bounds-d-3 c =
     let k = chained-at (goal.at.bounds-d-3 c).Start in
     omega arith
 
-pub overflow_cast-width : goal.overflow_cast-width
-overflow_cast-width c = omega (arith, c.type_inv.d 3)
-
-pub overflow_add-width : goal.overflow_add-width
-overflow_add-width c = omega (arith, c.type_inv.d 3)
-
 pub overflow_add-next : goal.overflow_add-next
 overflow_add-next c =
     let q = ready_at (goal.at.overflow_add-next c).Start in

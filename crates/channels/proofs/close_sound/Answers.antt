@@ -39,7 +39,7 @@ final-at : (c : After-final_of)
     → final_by (start (goal.at.After-final_of c).In-At).args.size c.in-At.place.length ≡ c.final_of.result
 final-at c =
     let s = start (goal.at.After-final_of c).In-At in
-    rw (← to_z-of_z w32 s.args.size s.fits.size) (sym c.final_of.ensures)
+    rw (← to_z-of_z w32 s.args.size s.ranges.size) (sym c.final_of.ensures)
 
 pub returns-then-not-is_channel : goal.returns-then-not-is_channel
 unfolding refuse
