@@ -3,6 +3,7 @@
 use borrow.Author.Rules.{rules}
 use mathlib.Core.Path.{◌≡◌, sym}
 use mir.Syntax.{w32}
+use mir.Val.{SFits}
 use mir.ValLaws.{to_z-of_z}
 use Rattle.meaning.specs.declared.Op.{Op}
 use Rattle.meaning.specs.declared.Op.TheVariants.{Lookup, Enter, Close, Abandon, Delete, Rename, Protect, Unprotect}
@@ -52,14 +53,14 @@ returns-in-Lookup c =
 pub returns-in-Enter : goal.returns-in-Enter
 returns-in-Enter c =
     let q = c.args.request in
-    let back = to_z-of_z w32 q.size (record { sfits = c.type_inv.request.1.1.1.1.1.0.1 }) in
-    rw (served (goal.at.returns-in-Enter c).After-name-1 Enter c.in-Enter.is) (rw back at c.enter_sound.ensures)
+    let fits : SFits w32 q.size = search rules in
+    rw (served (goal.at.returns-in-Enter c).After-name-1 Enter c.in-Enter.is) (rw (to_z-of_z w32 q.size fits) at c.enter_sound.ensures)
 
 pub returns-in-Close : goal.returns-in-Close
 returns-in-Close c =
     let q = c.args.request in
-    let back = to_z-of_z w32 q.final_length (record { sfits = c.type_inv.request.1.1.1.1.1.1.0.1 }) in
-    rw (served (goal.at.returns-in-Close c).After-name-1 Close c.in-Close.is) (rw back at c.close_sound.ensures)
+    let fits : SFits w32 q.final_length = search rules in
+    rw (served (goal.at.returns-in-Close c).After-name-1 Close c.in-Close.is) (rw (to_z-of_z w32 q.final_length fits) at c.close_sound.ensures)
 
 pub returns-in-Abandon : goal.returns-in-Abandon
 returns-in-Abandon c =
