@@ -13,7 +13,7 @@ returns c =
     let e = c.run_part.ensures in
     let k = c.eight in
     let x = firsts a.requests a.n k.result h k.ensures in
-    let l = c.eight2 in
+    let l = c.eight-2 in
     let y = firsts a.answers a.m l.result g l.ensures in
     let z = rests a.answers a.m l.result g l.ensures in
     rw (← x, ← y, ← z) e
