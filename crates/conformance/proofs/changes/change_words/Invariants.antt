@@ -1,7 +1,5 @@
 -- `change_words` is safe and ends: the directory keeps its length, its present words lie in it, and the words left to change fall.
-use mathlib.Core.Path.{◌≡◌}
-use Prim.Native.Nat.{◌≤◌}
-use lib.ListN.{length}
+use Rattle.std.proofs.Common.{◌≡◌, ◌≤◌, length}
 use Rattle.conformance.proofs.changes.change_words.Given as goal
 
 abbrev pub invariant-loop-left : goal.invariant-loop-left
