@@ -15,7 +15,7 @@ use meaning::{Answer, Request};
 const ROOM: usize = 224;
 
 // Ends the run at the first request that is none of those that there are.
-fn known(bytes: &[u8], state: State, count: usize) -> State
+fn known(rt: &impl Eprint, bytes: &[u8], state: State, count: usize) -> State
     requires { (length bytes.now ≡ 224) × (count ≤ 8) }
     ensures { Follows state result }
 {
@@ -23,7 +23,7 @@ fn known(bytes: &[u8], state: State, count: usize) -> State
     while i < count {
         let number = word_at(bytes, 28 * i);
         if !is_request(number) {
-            return refused(Why::Request, number as u32, state, 28 * (count - i));
+            return refused(rt, Why::Request, number as u32, state, 28 * (count - i));
         }
         i += 1;
     }
@@ -51,16 +51,21 @@ fn no_answers() -> [Answer; 8] {
 }
 
 // One answer of a batch, without a check.
-fn write_one(state: State, answer: Answer) -> State
+fn write_one(rt: &(impl Print + Eprint), state: State, answer: Answer) -> State
     ensures { Follows state result }
 {
     let numbers = numbers_of(answer, 0);
     let line = &numbers[..];
-    write_line(state, b"", &line[0..6])
+    write_line(rt, state, b"", &line[0..6])
 }
 
 // The first answers of a batch, so many.
-fn write_answers(start: State, answers: [Answer; 8], count: usize) -> State
+fn write_answers(
+    rt: &(impl Print + Eprint),
+    start: State,
+    answers: [Answer; 8],
+    count: usize,
+) -> State
     requires { count ≤ 8 }
     ensures { Follows start result }
 {
@@ -70,28 +75,41 @@ fn write_answers(start: State, answers: [Answer; 8], count: usize) -> State
         if !state.going {
             return state;
         }
-        state = write_one(state, answers[i]);
+        state = write_one(rt, state, answers[i]);
         i += 1;
     }
     state
 }
 
 // A batch's number and the check over the directory as it now stands; its answers, where the number is 0.
-fn write_batch(words: &[u16], state: State, part: Part, count: usize) -> State
+fn write_batch(
+    rt: &(impl Print + Eprint),
+    words: &[u16],
+    state: State,
+    part: Part,
+    count: usize,
+) -> State
     requires { count ≤ 8 }
     ensures { Follows state result }
 {
     let numbers = [part.number as u64, check_of(words)];
-    let next = write_line(state, b"batch", &numbers);
+    let next = write_line(rt, state, b"batch", &numbers);
     if part.number != 0 {
         return next;
     }
     let answers = part.answers;
-    write_answers(next, answers, count)
+    write_answers(rt, next, answers, count)
 }
 
 // The batch on the present directory, and its lines.
-fn serve_batch(d: &mut [u16], state: State, bytes: &[u8], count: usize, room: usize) -> State
+fn serve_batch(
+    rt: &(impl Print + Eprint),
+    d: &mut [u16],
+    state: State,
+    bytes: &[u8],
+    count: usize,
+    room: usize,
+) -> State
     requires { (length d.old ≡ 15872) × (state.words ≤ 15872) × (length bytes.now ≡ 224) × (count ≤ 8) }
     ensures { Follows state result }
 {
@@ -104,39 +122,50 @@ fn serve_batch(d: &mut [u16], state: State, bytes: &[u8], count: usize, room: us
         no_answers(),
         room,
     );
-    write_batch(&d[0..n], state, part, count)
+    write_batch(rt, &d[0..n], state, part, count)
 }
 
 // So many requests, with room for so many answers.
-fn take_requests(d: &mut [u16], state: State, count: usize, room: usize) -> State
+fn take_requests(
+    rt: &(impl Input + Print + Eprint),
+    d: &mut [u16],
+    state: State,
+    count: usize,
+    room: usize,
+) -> State
     requires { (length d.old ≡ 15872) × (state.words ≤ 15872) × (count ≤ 8) }
     ensures { Follows state result }
 {
     let mut record = [0u8; ROOM];
     let bytes = &mut record[..];
-    let read = read_bytes(&mut bytes[0..28 * count], state, false);
+    let read = read_bytes(rt, &mut bytes[0..28 * count], state, false);
     if !read.going {
         return read;
     }
-    let next = known(bytes, read, count);
+    let next = known(rt, bytes, read, count);
     if !next.going {
         return next;
     }
-    serve_batch(d, next, bytes, count, room)
+    serve_batch(rt, d, next, bytes, count, room)
 }
 
 // The room for answers, how many requests there are, and the requests.
-pub fn take_batch(d: &mut [u16], state: State, head: &[u8]) -> State
+pub fn take_batch(
+    rt: &(impl Input + Print + Eprint),
+    d: &mut [u16],
+    state: State,
+    head: &[u8],
+) -> State
     requires { (length d.old ≡ 15872) × (state.words ≤ 15872) × (length head.now ≡ 30) }
     ensures { Follows state result }
 {
     let room = word_at(head, 2);
     if room > 8 {
-        return refused(Why::Room, room as u32, state, 4);
+        return refused(rt, Why::Room, room as u32, state, 4);
     }
     let count = word_at(head, 4);
     if count > 8 {
-        return refused(Why::Requests, count as u32, state, 2);
+        return refused(rt, Why::Requests, count as u32, state, 2);
     }
-    take_requests(d, state, count as usize, room as usize)
+    take_requests(rt, d, state, count as usize, room as usize)
 }

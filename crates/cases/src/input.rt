@@ -1,37 +1,68 @@
 // What is read: a record's bytes as words, names, numbers and requests, low byte and low word first.
-ghost use Rattle.std.specs.Prelude.{◌≡◌, ◌+◌, ◌≤◌, length};
+ghost use Rattle.std.specs.Prelude.{◌≡◌, ◌+◌, ◌≤◌, length, IfOk};
 ghost use Rattle.meaning.specs.Listing.{word_at};
 ghost use Rattle.cases.specs.Runs.{Follows};
 ghost use Rattle.cases.specs.Records.{long_at, signed_at, name_at, is_request, op_of, request_at};
 
-use crate::complaints::complain_of_end;
+use crate::complaints::{complain_of_end, complain_of_failure};
 use crate::state::{State, passed, stopped};
-use libc::STDIN_FILENO;
 use meaning::{Name, Op, Request};
+use std::io;
+use std::io::Read;
 
 // The most bytes that a record counts. A program that takes them has room for so many.
 pub const BYTES: usize = 100000;
 
+// Fills the bytes from standard input as far as it goes, and answers how many came.
+fn read_full(rt: &impl Input, bytes: &mut [u8]) -> io::Result<usize>
+    ensures { IfOk result (λ n. n ≤ length bytes.new) }
+{
+    let mut reader = rt.reader();
+    let mut done = 0;
+    while done < bytes.len() {
+        let n = reader.read(&mut bytes[done..])?;
+        if n == 0 {
+            break;
+        }
+        done += n;
+    }
+    Ok(done)
+}
+
 // Fills the bytes from standard input, and the run goes on behind them. Where fewer come it ends: in the midst of a record, unless it
 // is a record's first bytes that are asked for and none came.
-pub fn read_bytes(bytes: &mut [u8], state: State, is_first: bool) -> State
+pub fn read_bytes(
+    rt: &(impl Input + Eprint),
+    bytes: &mut [u8],
+    state: State,
+    is_first: bool,
+) -> State
     ensures { Follows state result }
 {
-    let got = io::read_full(STDIN_FILENO, bytes);
-    let next = passed(state, got, true);
-    if got == bytes.len() {
-        return next;
+    match read_full(rt, bytes) {
+        Ok(got) => {
+            let next = passed(state, got, true);
+            if got == bytes.len() {
+                return next;
+            }
+            complain_of_end(rt, is_first && got == 0, next.offset);
+        }
+        Err(error) => complain_of_failure(rt, "standard input", error),
     }
-    complain_of_end(is_first && got == 0, next.offset);
     stopped()
 }
 
 // Fills the first bytes, so many, as a record has them that counts its bytes: an odd last one is followed by one more, so that words follow.
-pub fn read_counted(bytes: &mut [u8], count: usize, state: State) -> State
+pub fn read_counted(
+    rt: &(impl Input + Eprint),
+    bytes: &mut [u8],
+    count: usize,
+    state: State,
+) -> State
     requires { count ≤ length bytes.old }
     ensures { Follows state result }
 {
-    let next = read_bytes(&mut bytes[0..count], state, false);
+    let next = read_bytes(rt, &mut bytes[0..count], state, false);
     if !next.going {
         return next;
     }
@@ -39,7 +70,7 @@ pub fn read_counted(bytes: &mut [u8], count: usize, state: State) -> State
         return next;
     }
     let mut last = [0u8; 1];
-    read_bytes(&mut last, next, false)
+    read_bytes(rt, &mut last, next, false)
 }
 
 pub(crate) fn wide_byte(byte: u8) -> u16
@@ -96,14 +127,14 @@ fn words_of_bytes(bytes: &[u8], words: &mut [u16])
 }
 
 // Fills the words from standard input. Where fewer than all their bytes come the run ends, and what the words are is no matter.
-pub fn read_words(words: &mut [u16], state: State) -> State
+pub fn read_words(rt: &(impl Input + Eprint), words: &mut [u16], state: State) -> State
     requires { length words.old ≤ 15872 }
     ensures { Follows state result }
 {
     let mut room = [0u8; 31744];
     let n = 2 * words.len();
     let bytes = &mut room[..];
-    let next = read_bytes(&mut bytes[0..n], state, false);
+    let next = read_bytes(rt, &mut bytes[0..n], state, false);
     words_of_bytes(bytes, words);
     next
 }

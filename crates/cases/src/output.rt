@@ -3,9 +3,10 @@ ghost use Rattle.std.specs.Prelude.{◌≡◌, ◌<◌, ◌≤◌};
 ghost use Rattle.cases.specs.Runs.{Passed};
 ghost use Rattle.cases.specs.Lines.{numbers_of, Added, check};
 
+use crate::complaints::complain_of_failure;
 use crate::input::wide_byte;
 use crate::state::{State, passed};
-use libc::STDOUT_FILENO;
+use itoa::Buffer;
 use meaning::Answer;
 
 // A word of six letters, six numbers that are words and three of up to twenty digits, each with a byte before it, have room.
@@ -37,13 +38,13 @@ fn put_number(line: &mut [u8; ROOM], at: usize, number: u64) -> usize
     requires { at ≤ 128 }
     ensures { result ≤ 128 }
 {
-    let mut digits = [0u8; 20];
-    let k = io::decimal(number, &mut digits);
+    let mut buffer = Buffer::new();
+    let digits = buffer.format(number).as_bytes();
     if at == 0 {
-        return put(line, 0, &digits[..k]);
+        return put(line, 0, digits);
     }
     let from = put(line, at, b" ");
-    put(line, from, &digits[..k])
+    put(line, from, digits)
 }
 
 fn put_numbers(line: &mut [u8; ROOM], start: usize, numbers: &[u64]) -> usize
@@ -58,33 +59,35 @@ fn put_numbers(line: &mut [u8; ROOM], start: usize, numbers: &[u64]) -> usize
 }
 
 // Whether the line got out; where it did not, standard error says why.
-fn write_out(line: &[u8; ROOM], end: usize) -> bool
+fn write_out(rt: &(impl Print + Eprint), line: &[u8; ROOM], end: usize) -> bool
     requires { end ≤ 128 }
 {
     let whole = &line[..];
-    let is_written = io::write_all(STDOUT_FILENO, &whole[0..end]);
-    if !is_written {
-        os::fail(b"conformance: standard output");
+    match rt.write_all(&whole[0..end]) {
+        Ok(()) => true,
+        Err(error) => {
+            complain_of_failure(rt, "standard output", error);
+            false
+        }
     }
-    is_written
 }
 
 // A line of a word and numbers, with a space between them. The word may be empty. Where the line does not get out the run ends.
-pub fn write_line(state: State, word: &[u8], numbers: &[u64]) -> State
+pub fn write_line(rt: &(impl Print + Eprint), state: State, word: &[u8], numbers: &[u64]) -> State
     ensures { Passed state 0 result.going result }
 {
     let mut line = [0u8; ROOM];
     let at = put(&mut line, 0, word);
     let at = put_numbers(&mut line, at, numbers);
     let end = put(&mut line, at, b"\n");
-    passed(state, 0, write_out(&line, end))
+    passed(state, 0, write_out(rt, &line, end))
 }
 
 // A line of a text alone.
-pub fn write_text(state: State, text: &[u8]) -> State
+pub fn write_text(rt: &(impl Print + Eprint), state: State, text: &[u8]) -> State
     ensures { Passed state 0 result.going result }
 {
-    write_line(state, text, &[])
+    write_line(rt, state, text, &[])
 }
 
 // The numbers of an answer, in the order of its line, and the check behind them.

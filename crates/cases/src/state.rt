@@ -2,7 +2,6 @@
 ghost use Rattle.cases.specs.Runs.{Passed, Ended};
 
 use crate::complaints::{Why, complain, end_complaint};
-use libc::STDERR_FILENO;
 
 // The present directory has the first `words` of the words kept, on a volume of so many blocks. `offset` counts the bytes read so far.
 #[derive(Clone, Copy)]
@@ -21,7 +20,7 @@ pub fn passed(state: State, bytes: usize, is_written: bool) -> State
         going: is_written,
         words: state.words,
         blocks: state.blocks,
-        offset: std::num::wrapping_add_u64(state.offset, bytes as u64),
+        offset: state.offset.wrapping_add(bytes as u64),
     }
 }
 
@@ -38,11 +37,11 @@ pub fn stopped() -> State
 }
 
 // The end of the run at a word or a number that can't be taken, which begins so many bytes before what is read next.
-pub fn refused(why: Why, number: u32, state: State, back: usize) -> State
+pub fn refused(rt: &impl Eprint, why: Why, number: u32, state: State, back: usize) -> State
     ensures { Ended result }
 {
-    complain(why);
-    io::print_decimal(STDERR_FILENO, number as u64);
-    end_complaint(std::num::wrapping_sub_u64(state.offset, back as u64));
+    complain(rt, why);
+    let _ = rt.eprint(number);
+    end_complaint(rt, state.offset.wrapping_sub(back as u64));
     stopped()
 }

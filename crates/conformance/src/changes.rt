@@ -7,25 +7,25 @@ use cases::input::{read_bytes, word_at};
 use cases::state::{State, refused};
 
 // A place and the word that it gets.
-fn change_word(d: &mut [u16], state: State) -> State
+fn change_word(rt: &(impl Input + Eprint), d: &mut [u16], state: State) -> State
     requires { (length d.old ≡ 15872) × (state.words ≤ 15872) }
     ensures { result.words ≤ 15872 }
 {
     let mut pair = [0u8; 4];
-    let next = read_bytes(&mut pair, state, false);
+    let next = read_bytes(rt, &mut pair, state, false);
     if !next.going {
         return next;
     }
     let place = word_at(&pair, 0);
     let at = place as usize;
     if at >= next.words {
-        return refused(Why::Place, place as u32, next, 4);
+        return refused(rt, Why::Place, place as u32, next, 4);
     }
     d[at] = word_at(&pair, 2);
     next
 }
 
-fn change_words(d: &mut [u16], start: State, count: usize) -> State
+fn change_words(rt: &(impl Input + Eprint), d: &mut [u16], start: State, count: usize) -> State
     requires { (length d.old ≡ 15872) × (start.words ≤ 15872) }
     ensures { result.words ≤ 15872 }
 {
@@ -35,17 +35,22 @@ fn change_words(d: &mut [u16], start: State, count: usize) -> State
         if !state.going {
             return state;
         }
-        state = change_word(d, state);
+        state = change_word(rt, d, state);
         left -= 1;
     }
     state
 }
 
 // How many words are changed, and the pairs. The fault of the directory is the record's line.
-pub(crate) fn take_changes(d: &mut [u16], state: State, head: &[u8]) -> State
+pub(crate) fn take_changes(
+    rt: &(impl Input + Print + Eprint),
+    d: &mut [u16],
+    state: State,
+    head: &[u8],
+) -> State
     requires { (length d.old ≡ 15872) × (state.words ≤ 15872) × (length head.now ≡ 30) }
     ensures { result.words ≤ 15872 }
 {
-    let changed = change_words(d, state, word_at(head, 2) as usize);
-    write_fault(d, changed)
+    let changed = change_words(rt, d, state, word_at(head, 2) as usize);
+    write_fault(rt, d, changed)
 }

@@ -29,73 +29,73 @@ fn head_bytes(number: u16) -> usize
 }
 
 // A record's type, and what stands behind it in every record of the type.
-fn read_head(head: &mut [u8], state: State) -> State
+fn read_head(rt: &(impl Input + Eprint), head: &mut [u8], state: State) -> State
     requires { (length head.old ≡ 30) × (state.words ≤ 15872) }
     ensures { result.words ≤ 15872 }
 {
-    let next = read_bytes(&mut head[0..2], state, true);
+    let next = read_bytes(rt, &mut head[0..2], state, true);
     if !next.going {
         return next;
     }
     let n = head_bytes(word_at(head, 0));
-    read_bytes(&mut head[2..2 + n], next, false)
+    read_bytes(rt, &mut head[2..2 + n], next, false)
 }
 
 // What the types of our own ask for: those from 100 on.
-fn take_own(d: &mut [u16], state: State, head: &[u8]) -> State
+fn take_own(rt: &(impl Input + Print + Eprint), d: &mut [u16], state: State, head: &[u8]) -> State
     requires { (length d.old ≡ 15872) × (state.words ≤ 15872) × (length head.now ≡ 30) }
     ensures { result.words ≤ 15872 }
 {
     let number = word_at(head, 0);
     match number {
-        100 => batchcases::take_batch(d, state, head),
-        101 => changes::take_changes(d, state, head),
-        _ => refused(Why::Type, number as u32, state, 2),
+        100 => batchcases::take_batch(rt, d, state, head),
+        101 => changes::take_changes(rt, d, state, head),
+        _ => refused(rt, Why::Type, number as u32, state, 2),
     }
 }
 
 // What the types ask for that came from outside and have nothing to do with the directory: a label or a load file, read or written.
-fn take_later(d: &mut [u16], state: State, head: &[u8]) -> State
+fn take_later(rt: &(impl Input + Print + Eprint), d: &mut [u16], state: State, head: &[u8]) -> State
     requires { (length d.old ≡ 15872) × (state.words ≤ 15872) × (length head.now ≡ 30) }
     ensures { result.words ≤ 15872 }
 {
     match word_at(head, 0) {
-        7 | 8 => labelcases::take_block(state, head),
-        9 | 10 | 11 => loadcases::take_memory(state, head),
-        _ => take_own(d, state, head),
+        7 | 8 => labelcases::take_block(rt, state, head),
+        9 | 10 | 11 => loadcases::take_memory(rt, state, head),
+        _ => take_own(rt, d, state, head),
     }
 }
 
 // What the type asks for.
-fn take_kind(d: &mut [u16], state: State, head: &[u8]) -> State
+fn take_kind(rt: &(impl Input + Print + Eprint), d: &mut [u16], state: State, head: &[u8]) -> State
     requires { (length d.old ≡ 15872) × (state.words ≤ 15872) × (length head.now ≡ 30) }
     ensures { result.words ≤ 15872 }
 {
     match word_at(head, 0) {
         0 => stopped(),
-        1 => records::take_directory(d, state, head),
-        2 => records::start_fresh(d, state, head),
-        3 => records::take_request(d, state, head),
-        4 => squeezecases::take_squeeze(d, state, head),
-        _ => take_later(d, state, head),
+        1 => records::take_directory(rt, d, state, head),
+        2 => records::start_fresh(rt, d, state, head),
+        3 => records::take_request(rt, d, state, head),
+        4 => squeezecases::take_squeeze(rt, d, state, head),
+        _ => take_later(rt, d, state, head),
     }
 }
 
 // One record.
-fn take_record(d: &mut [u16], state: State) -> State
+fn take_record(rt: &(impl Input + Print + Eprint), d: &mut [u16], state: State) -> State
     requires { (length d.old ≡ 15872) × (state.words ≤ 15872) }
     ensures { result.words ≤ 15872 }
 {
     let mut head = [0u8; 30];
-    let next = read_head(&mut head, state);
+    let next = read_head(rt, &mut head, state);
     if !next.going {
         return next;
     }
-    take_kind(d, next, &head)
+    take_kind(rt, d, next, &head)
 }
 
 // A proved loop has to end, and nothing says that the input does: so the turns are counted down, from a number that no run uses up.
-fn run(d: &mut [u16], start: State)
+fn run(rt: &(impl Input + Print + Eprint), d: &mut [u16], start: State)
     requires { (length d.old ≡ 15872) × (start.words ≤ 15872) }
 {
     let mut state = start;
@@ -104,14 +104,15 @@ fn run(d: &mut [u16], start: State)
         if !state.going {
             return;
         }
-        state = take_record(d, state);
+        state = take_record(rt, d, state);
         turns -= 1;
     }
 }
 
-fn main() {
+fn main(rt: HostRuntime) {
     let mut d = [0u16; 15872];
     run(
+        &rt,
         &mut d[..],
         State {
             going: true,

@@ -12,7 +12,7 @@ use meaning::Answer;
 const WORDS: usize = 15872;
 
 // The fault of the present directory is the record's line, unless the run has ended.
-pub(crate) fn write_fault(d: &[u16], state: State) -> State
+pub(crate) fn write_fault(rt: &(impl Print + Eprint), d: &[u16], state: State) -> State
     requires { (length d.now ≡ 15872) × (state.words ≤ 15872) }
     ensures { result.words ≤ 15872 }
 {
@@ -21,18 +21,23 @@ pub(crate) fn write_fault(d: &[u16], state: State) -> State
     }
     let n = state.words;
     let number = fault(&d[0..n], state.blocks);
-    write_line(state, b"fault", &[number as u64])
+    write_line(rt, state, b"fault", &[number as u64])
 }
 
 // Type 1: V in two words, and a count of words, which become the present directory.
-pub(crate) fn take_directory(d: &mut [u16], state: State, head: &[u8]) -> State
+pub(crate) fn take_directory(
+    rt: &(impl Input + Print + Eprint),
+    d: &mut [u16],
+    state: State,
+    head: &[u8],
+) -> State
     requires { (length d.old ≡ 15872) × (length head.now ≡ 30) }
     ensures { result.words ≤ 15872 }
 {
     let count = word_at(head, 6);
     let n = count as usize;
     if n > WORDS {
-        return refused(Why::Words, count as u32, state, 2);
+        return refused(rt, Why::Words, count as u32, state, 2);
     }
     let new = State {
         going: true,
@@ -40,40 +45,50 @@ pub(crate) fn take_directory(d: &mut [u16], state: State, head: &[u8]) -> State
         blocks: long_at(head, 2) as usize,
         offset: state.offset,
     };
-    let next = read_words(&mut d[0..n], new);
-    write_fault(d, next)
+    let next = read_words(rt, &mut d[0..n], new);
+    write_fault(rt, d, next)
 }
 
 // The answer and the check over the directory as it now stands.
-fn write_answer(d: &[u16], state: State, answer: Answer) -> State
+fn write_answer(rt: &(impl Print + Eprint), d: &[u16], state: State, answer: Answer) -> State
     requires { (length d.now ≡ 15872) × (state.words ≤ 15872) }
     ensures { result.words ≤ 15872 }
 {
     let n = state.words;
     let numbers = numbers_of(answer, check_of(&d[0..n]));
-    write_line(state, b"", &numbers)
+    write_line(rt, state, b"", &numbers)
 }
 
 // Type 2: a fresh start over the present words, with so many extra words to an entry.
-pub(crate) fn start_fresh(d: &mut [u16], state: State, head: &[u8]) -> State
+pub(crate) fn start_fresh(
+    rt: &(impl Print + Eprint),
+    d: &mut [u16],
+    state: State,
+    head: &[u8],
+) -> State
     requires { (length d.old ≡ 15872) × (state.words ≤ 15872) × (length head.now ≡ 30) }
     ensures { result.words ≤ 15872 }
 {
     let n = state.words;
     let answer = fresh(&mut d[0..n], state.blocks, word_at(head, 2) as usize);
-    write_answer(d, state, answer)
+    write_answer(rt, d, state, answer)
 }
 
 // Type 3: a request in fourteen words.
-pub(crate) fn take_request(d: &mut [u16], state: State, head: &[u8]) -> State
+pub(crate) fn take_request(
+    rt: &(impl Print + Eprint),
+    d: &mut [u16],
+    state: State,
+    head: &[u8],
+) -> State
     requires { (length d.old ≡ 15872) × (state.words ≤ 15872) × (length head.now ≡ 30) }
     ensures { result.words ≤ 15872 }
 {
     let number = word_at(head, 2);
     if !is_request(number) {
-        return refused(Why::Request, number as u32, state, 28);
+        return refused(rt, Why::Request, number as u32, state, 28);
     }
     let n = state.words;
     let answer = serve(&mut d[0..n], state.blocks, request_at(head, 2));
-    write_answer(d, state, answer)
+    write_answer(rt, d, state, answer)
 }

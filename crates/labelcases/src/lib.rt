@@ -20,63 +20,68 @@ fn text_of(name: [u8; 12], owner: [u8; 12]) -> [u8; 39] {
     text
 }
 
-fn write_read(state: State, label: Label) -> State
+fn write_read(rt: &(impl Print + Eprint), state: State, label: Label) -> State
     ensures { Follows state result }
 {
     if label.number != 0 {
-        return write_line(state, b"label", &[label.number as u64]);
+        return write_line(rt, state, b"label", &[label.number as u64]);
     }
     if !label.labelled {
-        return write_text(state, b"label 0 UNLABELLED");
+        return write_text(rt, state, b"label 0 UNLABELLED");
     }
     let name = label.name;
     let owner = label.owner;
-    write_text(state, &text_of(name, owner))
+    write_text(rt, state, &text_of(name, owner))
 }
 
 // Name and owner stand behind the block. The check is over the block as the writer leaves it.
-fn mark(block: &mut [u8], state: State) -> State
+fn mark(rt: &(impl Input + Print + Eprint), block: &mut [u8], state: State) -> State
     ensures { Follows state result }
 {
     let mut name = [0u8; 12];
     let mut owner = [0u8; 12];
-    let named = read_bytes(&mut name, state, false);
+    let named = read_bytes(rt, &mut name, state, false);
     if !named.going {
         return named;
     }
-    let next = read_bytes(&mut owner, named, false);
+    let next = read_bytes(rt, &mut owner, named, false);
     if !next.going {
         return next;
     }
     let number = write_label(block, name, owner);
-    write_line(next, b"mark", &[number as u64, check_of_bytes(block)])
+    write_line(rt, next, b"mark", &[number as u64, check_of_bytes(block)])
 }
 
 // What the type asks of the block.
-fn serve_block(block: &mut [u8], state: State, number: u16) -> State
+fn serve_block(
+    rt: &(impl Input + Print + Eprint),
+    block: &mut [u8],
+    state: State,
+    number: u16,
+) -> State
     ensures { Follows state result }
 {
     if number == 7 {
-        return write_read(state, read_label(block));
+        return write_read(rt, state, read_label(block));
     }
-    mark(block, state)
+    mark(rt, block, state)
 }
 
 // Both types begin with the bytes of a block, which may be too few or too many for one.
-pub fn take_block(state: State, head: &[u8]) -> State
+pub fn take_block(rt: &(impl Input + Print + Eprint), state: State, head: &[u8]) -> State
     requires { length head.now ≡ 30 }
     ensures { Follows state result }
 {
     let count = long_at(head, 2);
     let n = count as usize;
     if n > BYTES {
-        return refused(Why::Bytes, count, state, 4);
+        return refused(rt, Why::Bytes, count, state, 4);
     }
     let mut room = [0u8; BYTES];
     let bytes = &mut room[..];
-    let next = read_counted(bytes, n, state);
+    let next = read_counted(rt, bytes, n, state);
     if !next.going {
         return next;
     }
-    serve_block(&mut bytes[0..n], next, word_at(head, 0))
+    serve_block(rt, &mut bytes[0..n], next, word_at(head, 0))
 }

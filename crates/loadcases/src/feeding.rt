@@ -25,11 +25,11 @@ struct Fed {
 }
 
 // The next length. More bytes than the stream has left end the run.
-fn read_length(state: State, left: usize) -> Length
+fn read_length(rt: &(impl Input + Eprint), state: State, left: usize) -> Length
     ensures { (result.count ≤ left) × Follows state result.state }
 {
     let mut number = [0u8; 4];
-    let next = read_bytes(&mut number, state, false);
+    let next = read_bytes(rt, &mut number, state, false);
     if !next.going {
         return Length {
             state: next,
@@ -40,7 +40,7 @@ fn read_length(state: State, left: usize) -> Length
     let n = count as usize;
     if n > left {
         return Length {
-            state: refused(Why::Piece, count, next, 4),
+            state: refused(rt, Why::Piece, count, next, 4),
             count: 0,
         };
     }
@@ -51,7 +51,13 @@ fn read_length(state: State, left: usize) -> Length
 }
 
 // So many pieces, from the stream's first byte on.
-fn feed_pieces(words: &mut [u16], stream: &[u8], start: State, count: u16) -> Fed
+fn feed_pieces(
+    rt: &(impl Input + Eprint),
+    words: &mut [u16],
+    stream: &[u8],
+    start: State,
+    count: u16,
+) -> Fed
     requires { start.going ≡ true }
     ensures { Follows start result.state }
 {
@@ -60,7 +66,7 @@ fn feed_pieces(words: &mut [u16], stream: &[u8], start: State, count: u16) -> Fe
     let mut at: usize = 0;
     let mut left = count;
     while left > 0 {
-        let length = read_length(state, stream.len() - at);
+        let length = read_length(rt, state, stream.len() - at);
         state = length.state;
         if !state.going {
             return Fed { state, reader };
@@ -91,16 +97,22 @@ fn told(reader: Reader, is_ended: bool) -> Reader {
 }
 
 // The last word says whether the input has ended.
-fn show_pieces(words: &[u16], reader: Reader, state: State) -> State
+fn show_pieces(
+    rt: &(impl Input + Print + Eprint),
+    words: &[u16],
+    reader: Reader,
+    state: State,
+) -> State
     ensures { Follows state result }
 {
     let mut word = [0u8; 2];
-    let next = read_bytes(&mut word, state, false);
+    let next = read_bytes(rt, &mut word, state, false);
     if !next.going {
         return next;
     }
     let last = told(reader, word_at(&word, 0) != 0);
     write_line(
+        rt,
         next,
         b"pieces",
         &numbers_of(answer_of(last), check_of(words)),
@@ -108,19 +120,24 @@ fn show_pieces(words: &[u16], reader: Reader, state: State) -> State
 }
 
 // How many pieces there are, and their lengths. Bytes behind the last piece are not fed.
-pub(crate) fn take_pieces(words: &mut [u16], stream: &[u8], state: State) -> State
+pub(crate) fn take_pieces(
+    rt: &(impl Input + Print + Eprint),
+    words: &mut [u16],
+    stream: &[u8],
+    state: State,
+) -> State
     ensures { Follows state result }
 {
     let mut word = [0u8; 2];
-    let next = read_bytes(&mut word, state, false);
+    let next = read_bytes(rt, &mut word, state, false);
     if !next.going {
         return next;
     }
-    let fed = feed_pieces(words, stream, next, word_at(&word, 0));
+    let fed = feed_pieces(rt, words, stream, next, word_at(&word, 0));
     let last = fed.state;
     if !last.going {
         return last;
     }
     let reader = fed.reader;
-    show_pieces(words, reader, last)
+    show_pieces(rt, words, reader, last)
 }

@@ -29,15 +29,16 @@ fn fill_memory(words: &mut [u16], first: u16, step: u16) {
     let mut next = first;
     for i in 0..words.len() {
         words[i] = next;
-        next = std::num::wrapping_add_u16(next, step);
+        next = next.wrapping_add(step);
     }
 }
 
-fn show_load(words: &mut [u16], stream: &[u8], state: State) -> State
+fn show_load(rt: &(impl Print + Eprint), words: &mut [u16], stream: &[u8], state: State) -> State
     ensures { Follows state result }
 {
     let answer: Loaded = load(stream, words);
     write_line(
+        rt,
         state,
         b"load",
         &[
@@ -49,43 +50,66 @@ fn show_load(words: &mut [u16], stream: &[u8], state: State) -> State
 }
 
 // What the type asks of the stream.
-fn serve_stream(words: &mut [u16], stream: &[u8], state: State, number: u16) -> State
+fn serve_stream(
+    rt: &(impl Input + Print + Eprint),
+    words: &mut [u16],
+    stream: &[u8],
+    state: State,
+    number: u16,
+) -> State
     ensures { Follows state result }
 {
     if number == 9 {
-        return show_load(words, stream, state);
+        return show_load(rt, words, stream, state);
     }
-    take_pieces(words, stream, state)
+    take_pieces(rt, words, stream, state)
 }
 
 // All bytes of the stream are read, and then a reader gets them.
-fn read_stream(words: &mut [u16], stream: &mut [u8], state: State, number: u16) -> State
+fn read_stream(
+    rt: &(impl Input + Print + Eprint),
+    words: &mut [u16],
+    stream: &mut [u8],
+    state: State,
+    number: u16,
+) -> State
     ensures { Follows state result }
 {
     let n = stream.len();
-    let next = read_counted(stream, n, state);
+    let next = read_counted(rt, stream, n, state);
     if !next.going {
         return next;
     }
-    serve_stream(words, stream, next, number)
+    serve_stream(rt, words, stream, next, number)
 }
 
 // The bytes of a stream follow the memory.
-fn take_stream(words: &mut [u16], state: State, head: &[u8]) -> State
+fn take_stream(
+    rt: &(impl Input + Print + Eprint),
+    words: &mut [u16],
+    state: State,
+    head: &[u8],
+) -> State
     requires { length head.now ≡ 30 }
     ensures { Follows state result }
 {
     let count = long_at(head, 8);
     let n = count as usize;
     if n > BYTES {
-        return refused(Why::Bytes, count, state, 4);
+        return refused(rt, Why::Bytes, count, state, 4);
     }
     let mut room = [0u8; BYTES];
     let bytes = &mut room[..];
-    read_stream(words, &mut bytes[0..n], state, word_at(head, 0))
+    read_stream(rt, words, &mut bytes[0..n], state, word_at(head, 0))
 }
 
-fn show_save(words: &[u16], out: &mut [u8], state: State, head: &[u8]) -> State
+fn show_save(
+    rt: &(impl Print + Eprint),
+    words: &[u16],
+    out: &mut [u8],
+    state: State,
+    head: &[u8],
+) -> State
     requires { length head.now ≡ 30 }
     ensures { Follows state result }
 {
@@ -93,6 +117,7 @@ fn show_save(words: &[u16], out: &mut [u8], state: State, head: &[u8]) -> State
     let count = long_at(head, 12) as usize;
     let answer: Saved = save(words, start, count, word_at(head, 16), out);
     write_line(
+        rt,
         state,
         b"save",
         &[
@@ -104,30 +129,35 @@ fn show_save(words: &[u16], out: &mut [u8], state: State, head: &[u8]) -> State
 }
 
 // First byte, count, transfer address and room follow the memory.
-fn take_range(words: &[u16], state: State, head: &[u8]) -> State
+fn take_range(rt: &(impl Print + Eprint), words: &[u16], state: State, head: &[u8]) -> State
     requires { length head.now ≡ 30 }
     ensures { Follows state result }
 {
     let room = long_at(head, 18);
     let n = room as usize;
     if n > OUTPUT {
-        return refused(Why::Output, room, state, 4);
+        return refused(rt, Why::Output, room, state, 4);
     }
     let mut bytes = [OLD; OUTPUT];
     let out = &mut bytes[..];
-    show_save(words, &mut out[0..n], state, head)
+    show_save(rt, words, &mut out[0..n], state, head)
 }
 
 // What the type asks of the memory.
-fn serve_memory(words: &mut [u16], state: State, head: &[u8]) -> State
+fn serve_memory(
+    rt: &(impl Input + Print + Eprint),
+    words: &mut [u16],
+    state: State,
+    head: &[u8],
+) -> State
     requires { length head.now ≡ 30 }
     ensures { Follows state result }
 {
     fill_memory(words, word_at(head, 4), word_at(head, 6));
     if word_at(head, 0) == 11 {
-        return take_range(words, state, head);
+        return take_range(rt, words, state, head);
     }
-    take_stream(words, state, head)
+    take_stream(rt, words, state, head)
 }
 
 // How many bytes there are from the memory's count to the end of the head.
@@ -139,7 +169,7 @@ fn behind_type(number: u16) -> usize {
 }
 
 // All three types begin with a memory.
-pub fn take_memory(state: State, head: &[u8]) -> State
+pub fn take_memory(rt: &(impl Input + Print + Eprint), state: State, head: &[u8]) -> State
     requires { length head.now ≡ 30 }
     ensures { Follows state result }
 {
@@ -147,6 +177,7 @@ pub fn take_memory(state: State, head: &[u8]) -> State
     let n = count as usize;
     if n > WORDS {
         return refused(
+            rt,
             Why::Memory,
             count as u32,
             state,
@@ -155,5 +186,5 @@ pub fn take_memory(state: State, head: &[u8]) -> State
     }
     let mut room = [0u16; WORDS];
     let words = &mut room[..];
-    serve_memory(&mut words[0..n], state, head)
+    serve_memory(rt, &mut words[0..n], state, head)
 }

@@ -14,16 +14,16 @@ use squeeze::squeeze;
 const ROOM: usize = 6900;
 
 // The move whose words stand at this place of the list.
-fn write_move(state: State, list: &[u16], at: usize) -> State
+fn write_move(rt: &(impl Print + Eprint), state: State, list: &[u16], at: usize) -> State
     requires { at + 3 ≤ length list.now }
     ensures { Follows state result }
 {
     let numbers = [list[at] as u64, list[at + 1] as u64, list[at + 2] as u64];
-    write_line(state, b"move", &numbers)
+    write_line(rt, state, b"move", &numbers)
 }
 
 // The first moves of the list, so many.
-fn write_moves(start: State, list: &[u16], count: usize) -> State
+fn write_moves(rt: &(impl Print + Eprint), start: State, list: &[u16], count: usize) -> State
     requires { 3 * count ≤ length list.now }
     ensures { Follows start result }
 {
@@ -34,7 +34,7 @@ fn write_moves(start: State, list: &[u16], count: usize) -> State
         if !state.going {
             return state;
         }
-        state = write_move(state, list, at);
+        state = write_move(rt, state, list, at);
         at += 3;
         left -= 1;
     }
@@ -42,7 +42,7 @@ fn write_moves(start: State, list: &[u16], count: usize) -> State
 }
 
 // The squeeze with this list, its number, count and check over the directory as it now stands, and the moves.
-fn serve_squeeze(d: &mut [u16], state: State, list: &mut [u16]) -> State
+fn serve_squeeze(rt: &(impl Print + Eprint), d: &mut [u16], state: State, list: &mut [u16]) -> State
     requires { (length d.old ≡ 15872) × (state.words ≤ 15872) }
     ensures { Follows state result }
 {
@@ -53,21 +53,21 @@ fn serve_squeeze(d: &mut [u16], state: State, list: &mut [u16]) -> State
         report.count as u64,
         check_of(&d[0..n]),
     ];
-    let next = write_line(state, b"squeeze", &numbers);
-    write_moves(next, list, report.count)
+    let next = write_line(rt, state, b"squeeze", &numbers);
+    write_moves(rt, next, list, report.count)
 }
 
 // The room: how many moves the list holds.
-pub fn take_squeeze(d: &mut [u16], state: State, head: &[u8]) -> State
+pub fn take_squeeze(rt: &(impl Print + Eprint), d: &mut [u16], state: State, head: &[u8]) -> State
     requires { (length d.old ≡ 15872) × (state.words ≤ 15872) × (length head.now ≡ 30) }
     ensures { Follows state result }
 {
     let room = word_at(head, 2);
     if room > 2300 {
-        return refused(Why::Moves, room as u32, state, 2);
+        return refused(rt, Why::Moves, room as u32, state, 2);
     }
     let mut moves = [0u16; ROOM];
     let list = &mut moves[..];
     let n = 3 * room as usize;
-    serve_squeeze(d, state, &mut list[0..n])
+    serve_squeeze(rt, d, state, &mut list[0..n])
 }
