@@ -1,6 +1,5 @@
-// A walker over the entries: a struct that borrows the directory and knows where in it it stands. The checker covers no function over such
-// a struct, so each is proved by hand and kept thin: it takes the struct apart and leaves the work to a covered function on the
-// slice. `row` stands above them with plain parameters, for every other caller.
+// A walker over the entries: a struct that borrows the directory and knows where in it it stands. Each function over it is kept thin: it takes
+// the struct apart and leaves the work to a function on the slice. `row` stands above them with plain parameters, for every other caller.
 #![tactic(auto)]
 
 ghost use Rattle.std.specs.Prelude.{◌≡◌};

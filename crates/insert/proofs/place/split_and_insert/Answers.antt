@@ -88,13 +88,13 @@ copy_words-requires-2 c = fresh_at (goal.at.copy_words-requires-2 c).After-copy_
 
 -- and with both halves put
 long-at : (c : After-copy_words-2)
-    → length c.copy_words-2.new.1.0 ≡ length (start_of (goal.at.After-copy_words-2 c).After-copy_words).args.directory.now
+    → length c.copy_words-2.new.target ≡ length (start_of (goal.at.After-copy_words-2 c).After-copy_words).args.directory.now
 long-at c =
     let x = c.copy_words in
     let y = c.copy_words-2 in
     let f = c.fresh_segment-fresh in
     let n = 512 * highest (start_of (goal.at.After-copy_words-2 c).After-copy_words).args.directory.now in
-    (pasted x.new.1.0 y.new.1.0 f.result n (fresh_at (goal.at.After-copy_words-2 c).After-copy_words) y.ensures).long ∙ kept_at (goal.at.After-copy_words-2 c).After-copy_words
+    (pasted x.new.target y.new.target f.result n (fresh_at (goal.at.After-copy_words-2 c).After-copy_words) y.ensures).long ∙ kept_at (goal.at.After-copy_words-2 c).After-copy_words
 
 pub bounds-directory-2-2 : goal.bounds-directory-2-2
 bounds-directory-2-2 c =

@@ -1,0 +1,19 @@
+-- `tidy_if` meets its contract: without an untidy segment the directory is as the tidy leaves it (`tidied-already`).
+use borrow.Author.Rules.{rules}
+use mathlib.Core.Path.{sym, ◌∙◌}
+use borrow.Author.Tests.{not-true}
+use Rattle.meaning.specs.Words.{chain}
+use Rattle.survey.proofs.Along.{tidied-already}
+use Rattle.enter.proofs.Ready.{tidyable}
+use Rattle.enter.proofs.tidy_if.Goals as goal
+
+pub returns-then-not-untidy : goal.returns-then-not-untidy
+returns-then-not-untidy c =
+    let d = c.args.d.now in
+    sym (tidied-already d (chain d) (sym c.requires.1 ∙ c.if-not-untidy.true))
+
+pub tidy_all-requires : goal.tidy_all-requires
+tidy_all-requires c = tidyable c.args.v c.args.d.now c.requires.0
+
+pub returns : goal.returns
+returns c = c.tidy_all.ensures.is
