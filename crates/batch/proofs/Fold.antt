@@ -7,7 +7,6 @@ use native.Mathlib.Numerals.{add-one}
 use native.Mathlib.Omega.{arith}
 use mathlib.Core.List.{List, [], ◌∷◌, ◌++◌, append_assoc, append-nil}
 use lib.IntN.{pos}
-use lib.Dec.{T, eqb, eqb→eq}
 use lib.ListN.{length, get_or, take, drop, set, length-set, drop_of_length-le}
 use lib.Seq.{take_all, drop-cons, take-suc-set}
 use borrow.Author.Tests.{eq-eqb, ne_eqb}
@@ -55,96 +54,76 @@ serve-fault v d q = go (fault v d) refl
     go zero e = serve-sound v d (sym e) q ∙ e
     go (suc n) e = ap (λ (o : Outcome). fault v o.words) (faulty v d q (suc n) e (λ h. omega (arith, h)))
 
--- the state before a turn, of a batch of the requests rs on the words ds
+-- before turn i of a batch of the requests rs on the words ds, with the words D and the answers As so far
 module _ (v : ℕ) (ds : List ℕ) (rs : List Request) where
-  pub record Turn : Type 0 where
-    pub i : ℕ
-    pub D : List ℕ
-    pub As : List Answer
-    pub len_d : length D ≡ length ds
+  pub record Turn (i : ℕ) (D : List ℕ) (As : List Answer) : Type 0 where
     pub len_a : length As ≡ length rs
     pub same_fault : fault v D ≡ fault v ds
     pub words : words_after v D (drop i rs) ≡ words_after v ds rs
     pub answers : take i As ++ answers_to v D (drop i rs) ≡ answers_to v ds rs
 
-  -- the first turn, which has to be at the first request
-  pub all_left : (i : ℕ) → T (eqb i 0) → drop i rs ≡ rs
-  all_left i z = ap (λ (k : ℕ). drop k rs) (eqb→eq i 0 z)
-
-  pub none_answered : (us : List Answer) (i : ℕ) → T (eqb i 0) → take i us ++ answers_to v ds (drop i rs) ≡ answers_to v ds rs
-  none_answered us i z = ap (λ (k : ℕ). take k us ++ answers_to v ds (drop k rs)) (eqb→eq i 0 z)
-
-  abbrev pub start : (us : List Answer) (i : ℕ) → T (eqb i 0) → length rs ≡ length us → Turn
-  start us i z e = record {
-    i = i;
-    D = ds;
-    As = us;
-    len_d = refl;
+  pub start : (us : List Answer) → length rs ≡ length us → Turn 0 ds us
+  start us e = record {
     len_a = sym e;
     same_fault = refl;
-    words = ap (words_after v ds) (all_left i z);
-    answers = none_answered us i z;
+    words = refl;
+    answers = refl;
   }
 
-  -- request i is served: a is its answer, and zs are the words after it
-  module _ (t : Turn) (l : t.i < length rs) (a : Answer) (zs : List ℕ)
-      (ea : a ≡ (serve v t.D (get_or rs t.i no_request)).answer)
-      (ez : zs ≡ (serve v t.D (get_or rs t.i no_request)).words) where
-    here : drop t.i rs ≡ get_or rs t.i no_request ∷ drop (suc t.i) rs
-    here = drop-cons rs t.i no_request l
+  module _ {i : ℕ} {D : List ℕ} {As : List Answer} (t : Turn i D As) where
+    -- request i is served: a is its answer, and zs are the words after it
+    module _ (l : i < length rs) (a : Answer) (zs : List ℕ)
+        (ea : a ≡ (serve v D (get_or rs i no_request)).answer)
+        (ez : zs ≡ (serve v D (get_or rs i no_request)).words) where
+      here : drop i rs ≡ get_or rs i no_request ∷ drop (suc i) rs
+      here = drop-cons rs i no_request l
 
-    pub next_words : words_after v zs (drop (t.i + 1) rs) ≡ words_after v ds rs
+      next_words : words_after v zs (drop (i + 1) rs) ≡ words_after v ds rs
+      unfolding words_after
+      next_words =
+          ap (λ (k : ℕ). words_after v zs (drop k rs)) (add-one i)
+          ∙ ap (λ (d : List ℕ). words_after v d (drop (suc i) rs)) ez
+          ∙ ap (λ (qs : List Request). words_after v D qs) (sym here)
+          ∙ t.words
+
+      next_answers : take (i + 1) (set As i a) ++ answers_to v zs (drop (i + 1) rs) ≡ answers_to v ds rs
+      unfolding answers_to
+      next_answers =
+          ap (λ (k : ℕ). take k (set As i a) ++ answers_to v zs (drop k rs)) (add-one i)
+          ∙ answer-put As i a (answers_to v zs (drop (suc i) rs)) (omega (arith, t.len_a, l))
+          ∙ ap (λ (x : Answer). take i As ++ (x ∷ answers_to v zs (drop (suc i) rs))) ea
+          ∙ ap (λ (d : List ℕ). take i As
+          ++ ((serve v D (get_or rs i no_request)).answer ∷ answers_to v d (drop (suc i) rs))) ez
+          ∙ ap (λ (qs : List Request). take i As ++ answers_to v D qs) (sym here)
+          ∙ t.answers
+
+      pub next : Turn (i + 1) zs (set As i a)
+      next = record {
+        len_a = length-set As i a ∙ t.len_a;
+        same_fault = ap (fault v) ez ∙ serve-fault v D (get_or rs i no_request) ∙ t.same_fault;
+        words = next_words;
+        answers = next_answers;
+      }
+
+    last_words : length rs ≤ i → D ≡ words_after v ds rs
     unfolding words_after
-    next_words =
-        ap (λ (k : ℕ). words_after v zs (drop k rs)) (add-one t.i)
-        ∙ ap (λ (d : List ℕ). words_after v d (drop (suc t.i) rs)) ez
-        ∙ ap (λ (qs : List Request). words_after v t.D qs) (sym here)
-        ∙ t.words
+    last_words l = ap (λ (qs : List Request). words_after v D qs) (sym (drop_of_length-le rs l)) ∙ t.words
 
-    pub next_answers : take (t.i + 1) (set t.As t.i a) ++ answers_to v zs (drop (t.i + 1) rs) ≡ answers_to v ds rs
+    last_answers : length rs ≤ i → As ≡ answers_to v ds rs
     unfolding answers_to
-    next_answers =
-        ap (λ (k : ℕ). take k (set t.As t.i a) ++ answers_to v zs (drop k rs)) (add-one t.i)
-        ∙ answer-put t.As t.i a (answers_to v zs (drop (suc t.i) rs)) (omega (arith, t.len_a, l))
-        ∙ ap (λ (x : Answer). take t.i t.As ++ (x ∷ answers_to v zs (drop (suc t.i) rs))) ea
-        ∙ ap (λ (d : List ℕ). take t.i t.As
-        ++ ((serve v t.D (get_or rs t.i no_request)).answer ∷ answers_to v d (drop (suc t.i) rs))) ez
-        ∙ ap (λ (qs : List Request). take t.i t.As ++ answers_to v t.D qs) (sym here)
+    last_answers l =
+        sym (append-nil (take i As) ∙ take_all i As (omega (arith, t.len_a, l)))
+        ∙ ap (λ (qs : List Request). take i As ++ answers_to v D qs) (sym (drop_of_length-le rs l))
         ∙ t.answers
 
-    abbrev pub next : length zs ≡ length t.D → Turn
-    next len = record {
-      i = t.i + 1;
-      D = zs;
-      As = set t.As t.i a;
-      len_d = len ∙ t.len_d;
-      len_a = length-set t.As t.i a ∙ t.len_a;
-      same_fault = ap (fault v) ez ∙ serve-fault v t.D (get_or rs t.i no_request) ∙ t.same_fault;
-      words = next_words;
-      answers = next_answers;
-    }
+    -- what is left where all are served
+    pub ran : (us : List Answer) → length rs ≡ length us → length rs ≤ i → Ran 0 D As (batch v ds rs us)
+    unfolding batch
+    ran us e l =
+        let q = eq-eqb (length rs) (length us) e in
+        record { is = rw q; after = rw q (last_words l); answered = rw q (last_answers l) }
 
-  last_words : (t : Turn) → length rs ≤ t.i → t.D ≡ words_after v ds rs
-  unfolding words_after
-  last_words t l = ap (λ (qs : List Request). words_after v t.D qs) (sym (drop_of_length-le rs l)) ∙ t.words
-
-  last_answers : (t : Turn) → length rs ≤ t.i → t.As ≡ answers_to v ds rs
-  unfolding answers_to
-  last_answers t l =
-      sym (append-nil (take t.i t.As) ∙ take_all t.i t.As (omega (arith, t.len_a, l)))
-      ∙ ap (λ (qs : List Request). take t.i t.As ++ answers_to v t.D qs) (sym (drop_of_length-le rs l))
-      ∙ t.answers
-
-  -- what is left where all are served, and where the lengths differ; the number r that is answered is 0, or 18
-  pub ran : (us : List Answer) (r : ℕ) → T (eqb r 0) → length rs ≡ length us → (t : Turn) → length rs ≤ t.i
-      → Ran r t.D t.As (batch v ds rs us)
+  -- where the lengths differ
+  pub refused : (us : List Answer) → (length rs ≡ length us → ⊥) → Ran 18 ds us (batch v ds rs us)
   unfolding batch
-  ran us r z e t l =
-      let q = eq-eqb (length rs) (length us) e in
-      record { is = rw q (eqb→eq r 0 z); after = rw q (last_words t l); answered = rw q (last_answers t l) }
-
-  pub refused : (us : List Answer) (r : ℕ) → T (eqb r 18) → (length rs ≡ length us → ⊥) → Ran r ds us (batch v ds rs us)
-  unfolding batch
-  refused us r z n =
-      let q = ne_eqb (length rs) (length us) n in
-      record { is = rw q (eqb→eq r 18 z); after = rw q; answered = rw q }
+  refused us n = let q = ne_eqb (length rs) (length us) n in record { is = rw q; after = rw q; answered = rw q }

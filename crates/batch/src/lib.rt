@@ -1,6 +1,5 @@
-// The batch: request records one by one in slice order, each answered in its place. The borrow checker covers no function over a slice
-// of structs, so `run` and `run_part` are thin and proved by hand; `run_some`, with plain parameters, stands above them for all callers
-// that have their records in arrays.
+// The batch: request records one by one in slice order, each answered in its place. `run` takes slices; `run_some`, with plain parameters,
+// stands above it for all callers that have their records in arrays.
 #![tactic(auto)]
 
 ghost use Rattle.std.specs.Prelude.{◌≡◌, ◌≤◌, min, take, drop};

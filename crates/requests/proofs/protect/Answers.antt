@@ -1,0 +1,6 @@
+-- `protect` meets its contract: it is `on_file`'s, of its own kind.
+use borrow.Author.Rules.{rules}
+use Rattle.requests.proofs.protect.Goals as goal
+
+pub returns : goal.returns
+returns c = c.on_file.ensures
