@@ -53,29 +53,18 @@ both_twelve block k =
     ∙ both_bytes (take 12 (drop k block)) (take 12 (drop (k + 12) block))
 
 -- twelve bytes of a block, copied over others
-pub copied-out : (block fill : List ℕ) {r : List ℕ} (k : ℕ) → k + 12 ≤ length block → length fill ≡ 12
-    → (let part = take (k + 12 - k) (drop k block) in r ≡ take (length part) part ++ drop (length part) fill)
+pub copied-out : (block : List ℕ) {r : List ℕ} (k : ℕ) → k + 12 ≤ length block → r ≡ take (k + 12 - k) (drop k block)
     → r ≡ twelve_at k block
 unfolding twelve_at
-copied-out block fill k h f e =
-    let n : k + 12 - k ≡ 12 = omega arith in
-    let m : length (take 12 (drop k block)) ≡ 12 = length-take-le 12 (drop k block) (omega (arith, length-drop k block)) in
-    let part = take 12 (drop k block) in
-    let all : length fill ≤ 12 = omega arith in
-    let g : drop 12 fill ≡ [] = drop_of_length-le fill all in
-    (rw n at e) ∙ rw (m, g, append-nil (take 12 part)) (ap (λ (i : ℕ). take i part) (sym m) ∙ take-length part)
+copied-out block k h e = let n : k + 12 - k ≡ 12 = omega arith in rw n at e
 
 -- a text copied into a part of a block
 pub copied_in : (block text : List ℕ) {part : List ℕ} (k : ℕ) → k + length text ≤ length block
-    → part ≡ take (length text) text ++ drop (length text) (take (k + length text - k) (drop k block))
-    → put_mid k (k + length text - k) block part ≡ put_at k text block
+    → part ≡ text → put_mid k (k + length text - k) block part ≡ put_at k text block
 unfolding put_at
 copied_in block text k h e =
-    let old = take (k + length text - k) (drop k block) in
-    let short : length old ≤ length text = omega (arith, length-take (k + length text - k) (drop k block)) in
-    let whole = rw (take-length text, drop_of_length-le old short, append-nil text) at e in
     let after : post_of k (k + length text - k) block ≡ drop (k + length text) block = Post-is k (k + length text) block (omega arith) in
-    rw (after, whole) (sym (append_assoc (take k block) text (drop (k + length text) block)))
+    rw (after, e) (sym (append_assoc (take k block) text (drop (k + length text) block)))
 
 -- the reader's four ways
 pub no_block : (block : List ℕ) → (length block ≡ 512 → ⊥) → label_of block ≡ without_label 25

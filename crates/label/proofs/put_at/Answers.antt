@@ -5,4 +5,4 @@ use Rattle.label.proofs.put_at.Goals as goal
 
 pub returns : goal.returns
 returns c =
-    copied_in c.args.block.now c.args.text.now c.args.at c.requires c.copy.ensures.1
+    copied_in c.args.block.now c.args.text.now c.args.at c.requires c.copy_from_slice.ensures.after

@@ -6,4 +6,4 @@ use Rattle.label.proofs.twelve_at.Goals as goal
 
 pub returns : goal.returns
 returns c =
-    copied-out c.args.block.now _ c.args.at c.requires refl c.copy.ensures.1
+    copied-out c.args.block.now c.args.at c.requires c.copy_from_slice.ensures.after

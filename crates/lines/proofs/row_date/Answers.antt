@@ -1,0 +1,12 @@
+-- `row_date` meets its contract: an empty entry shows the word 0.
+use borrow.Author.Rules.{rules}
+use Rattle.lines.specs.Pieces.{row_date}
+use Rattle.lines.proofs.row_date.Goals as goal
+
+pub returns-then-is_empty : goal.returns-then-is_empty
+unfolding row_date
+returns-then-is_empty c = rw (← c.is_empty.ensures, c.if-is_empty.true)
+
+pub returns : goal.returns
+unfolding row_date
+returns c = rw (← c.is_empty.ensures, c.if-is_empty.false)

@@ -1,0 +1,16 @@
+-- `put_full` meets its contract: the loop keeps that the first `i` blocks are written.
+use borrow.Author.Rules.{rules}
+use native.Mathlib.Omega.{arith}
+use mathlib.Core.Path.{◌≡◌}
+use Prim.Native.Nat.{◌+◌, ◌*◌, ◌-◌, ◌≤◌}
+use Rattle.lines.specs.Wrote.{Wrote}
+use Rattle.loads.specs.Writing.{full_blocks}
+use Rattle.loadwrite.proofs.Files.{length_data, no-full, full_more, all-full}
+use Rattle.loadwrite.proofs.saving.put_full.Given as goal
+
+abbrev pub invariant-loop-i : goal.invariant-loop-i
+invariant-loop-i l =
+    (l.i ≤ l.blocks) × (l.at ≡ l.address + l.i * 128) × (l.next ≡ l.place + l.i * 135) × Wrote l.initial.out l.place (full_blocks l.words l.address l.i) l.out l.next
+
+abbrev pub decreases-loop-i : goal.decreases-loop-i
+decreases-loop-i l = l.blocks - l.i

@@ -1,0 +1,11 @@
+-- `inserted_segment` meets its contract: header, words with the new entry among them, and marker written into zeros.
+use borrow.Author.Rules.{rules}
+use native.Mathlib.Omega.{arith}
+use Rattle.render.specs.Anew.{rendered_words}
+use Rattle.render.proofs.Anew.{segment-written}
+use Rattle.render.proofs.inserted_segment.Goals as goal
+
+pub returns : goal.returns
+unfolding rendered_words
+returns c =
+    segment-written 512 (omega arith) c.put_words-start.ensures c.put_inserted-next.ensures
