@@ -11,6 +11,9 @@ use std::io::{ErrorKind, Read};
 use std::rt::Files;
 use std::{fmt, io, str};
 
+// Room for a path of any length that the system takes.
+pub const PATH_MAX: usize = 4096;
+
 // The numbers of the system's errors for an argument that is missing, and for one that its buffer can't hold.
 const EINVAL: i32 = 22;
 
@@ -99,7 +102,7 @@ pub fn complain<D: fmt::Display + Drop>(rt: &impl Eprint, what: &[u8], why: D) {
 }
 
 // Complains with the error's text, less the number that std puts behind the text of an error of the system.
-pub fn fail(rt: &(impl Eprint + AllocGlobal), what: &[u8], error: io::Error) {
+pub fn fail<R: Eprint + Alloc>(rt: &R, what: &[u8], error: io::Error) {
     let Ok(text) = format!(in rt.alloc(); "{error}") else {
         complain(rt, what, error);
         return;
