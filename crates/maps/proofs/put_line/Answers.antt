@@ -7,7 +7,7 @@ use Rattle.maps.proofs.put_line.Goals as goal
 pub block_line-requires : goal.block_line-requires
 block_line-requires c =
     let p = rw c.in-Block.is at c.requires in
-    (p.0.0, p.0.1, omega (arith, c.known_told-1.given.1.0), omega (arith, p.1))
+    (p.0.0, p.0.1, omega arith, omega (arith, p.1))
 
 pub transfer_line-requires : goal.transfer_line-requires
 transfer_line-requires c =
@@ -17,7 +17,7 @@ transfer_line-requires c =
 pub refused_line-requires : goal.refused_line-requires
 refused_line-requires c =
     let p = rw c.in-Refused.is at c.requires in
-    (omega (arith, c.known_told-in-Refused-1.given.0), omega (arith, p.1))
+    (omega arith, omega (arith, p.1))
 
 pub returns-in-Gap : goal.returns-in-Gap
 returns-in-Gap c =

@@ -1,0 +1,16 @@
+-- `pack_chain` meets its contract: the loop keeps `Renewing`, and its measure is the segments left. A turn is `renews_on`, and `at-segment` has the
+-- bounds of the segment's place.
+use borrow.Author.Rules.{rules}
+use native.Mathlib.Omega.{arith}
+use Prim.Native.Nat.{◌+◌, ◌*◌, ◌-◌, ◌≤◌}
+use lib.ListN.{length}
+use Rattle.rules.proofs.Rule5.{rule1-holds}
+use Rattle.rules.proofs.Soundness.{Sound, sound}
+use Rattle.packing.proofs.Chains.{Renewing, renews, at-segment, packable, renews_on, renewed_all}
+use Rattle.packing.proofs.anew.pack_chain.Given as goal
+
+abbrev pub invariant-loop-left : goal.invariant-loop-left
+invariant-loop-left l = Renewing l.v l.initial.words l.initial.list l.words l.left l.number l.free l.list l.listed
+
+abbrev pub decreases-loop-left : goal.decreases-loop-left
+decreases-loop-left l = l.left

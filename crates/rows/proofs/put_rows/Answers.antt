@@ -1,0 +1,26 @@
+-- `put_rows` meets its contract: the loop keeps that the text written, and that of the rows ahead, are that of all rows (laws of Shows).
+use borrow.Author.Rules.{rules}
+use mathlib.Core.Path.{sym, ◌∙◌}
+use lib.ListN.{length}
+use Rattle.cursor.specs.Cursor.{rows_at}
+use Rattle.rows.proofs.Shows.{Showing, show_none, shown, show_all, show_less, show_more}
+use Rattle.rows.proofs.put_rows.Goals as goal
+
+pub loop-seen-init : goal.loop-seen-init
+loop-seen-init c =
+    show_none c.args.d.now c.args.out.now c.args.at c.requires.0 c.requires.1 c.start-here.ensures
+
+pub put_row-next-requires : goal.put_row-next-requires
+put_row-next-requires c =
+    shown c.loop-seen.invariant _ _ (sym c.step_from-step.ensures ∙ c.in-Entry.is) c.requires.1
+
+pub loop-seen-smaller : goal.loop-seen-smaller
+loop-seen-smaller c =
+    show_less c.loop-seen.invariant _ _ (sym c.step_from-step.ensures ∙ c.in-Entry.is)
+
+pub loop-seen-preserved : goal.loop-seen-preserved
+loop-seen-preserved c =
+    show_more c.loop-seen.invariant _ _ (sym c.step_from-step.ensures ∙ c.in-Entry.is) c.put_row-next.ensures
+
+pub returns-in-End : goal.returns-in-End
+returns-in-End c = show_all c.loop-seen.invariant (sym c.step_from-step.ensures ∙ c.in-End.is)

@@ -1,0 +1,25 @@
+-- `total_blocks` meets its contract: the loop keeps that the blocks counted, and those of the rows ahead, are those of all entries
+-- (laws of Sums).
+use borrow.Author.Rules.{rules}
+use mathlib.Core.Path.{sym, ◌∙◌}
+use lib.ListN.{length}
+use Rattle.cursor.specs.Cursor.{rows_at}
+use Rattle.rows.proofs.Sums.{Summing, sum-none, sum_fits, sum-all, sum_less, sum_more}
+use Rattle.rows.proofs.total_blocks.Goals as goal
+
+pub loop-seen-init : goal.loop-seen-init
+loop-seen-init c = sum-none c.args.d.now c.requires c.start-here.ensures
+
+pub count_entry-sums-requires : goal.count_entry-sums-requires
+count_entry-sums-requires c = sum_fits c.loop-seen.invariant
+
+pub loop-seen-smaller : goal.loop-seen-smaller
+loop-seen-smaller c =
+    sum_less c.loop-seen.invariant _ _ (sym c.step_from-step.ensures ∙ c.in-Entry.is)
+
+pub loop-seen-preserved : goal.loop-seen-preserved
+loop-seen-preserved c =
+    sum_more c.loop-seen.invariant _ _ (sym c.step_from-step.ensures ∙ c.in-Entry.is) c.count_entry-sums.ensures
+
+pub returns-in-End : goal.returns-in-End
+returns-in-End c = sum-all c.loop-seen.invariant (sym c.step_from-step.ensures ∙ c.in-End.is)

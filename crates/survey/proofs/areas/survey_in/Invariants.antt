@@ -1,0 +1,16 @@
+-- `survey_in` meets its contract: the loop keeps `Surveying`, that the survey so far with the entries ahead is the survey of all, and
+-- its measure is the slots left.
+use native.Mathlib.Omega.{arith}
+use borrow.Author.Rules.{rules}
+use mathlib.Core.Path.{sym, ◌∙◌}
+use Prim.Native.Nat.{◌+◌, ◌≤◌}
+use Rattle.walks.proofs.Slots.{mul_less}
+use Rattle.survey.proofs.Walking.{sum_fits, Surveying, surveying, surveyed-over, surveyed-end, survey-on}
+use Rattle.survey.proofs.areas.survey_in.Given as goal
+
+abbrev pub invariant-loop-left : goal.invariant-loop-left
+invariant-loop-left l =
+    Surveying l.segment l.width l.free l.least l.initial.found l.left l.word l.found l.run
+
+abbrev pub decreases-loop-left : goal.decreases-loop-left
+decreases-loop-left l = l.left
