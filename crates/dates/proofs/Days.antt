@@ -12,7 +12,7 @@ use lib.Dec.{eqb, leb}
 use Rattle.dates.specs.Dates.{years, month_lengths, is_leap, days_in, in_calendar, packed_day, day_field, month_field, names_day, good_date}
 use Rattle.dates.specs.Dates.{word_of_day, day_of_word}
 use Rattle.bools.proofs.Bools.{both, either, either_side}
-use Rattle.bools.proofs.Below.{every, below}
+use Rattle.bools.proofs.Below.{below}
 
 -- the table's rule: no month is longer than 31 days, in leap years either
 short : ℕ → Bool

@@ -4,77 +4,75 @@
 
 ghost use Rattle.std.specs.Prelude.{◌≤◌, length};
 
-use libc::{STDIN_FILENO, STDOUT_FILENO};
 use listing::{ROOM, listing};
+use std::io;
+use std::io::Read;
+use std::rt::Runtime;
+use streams::{PATH_MAX, arg, arg_count, fail, open_read, read_full};
 
 // One byte more than a good head file has at most, so that a longer one is seen to be too long.
 const MOST: usize = 32264;
 
-fn write_start(out: &[u8; ROOM], n: usize)
+fn write_start(rt: &impl Runtime, out: &[u8; ROOM], n: usize)
     requires { n ≤ length out.now }
 {
     let whole = &out[..];
-    if !io::write_all(STDOUT_FILENO, &whole[0..n]) {
-        os::fail(b"list: standard output");
+    if let Err(error) = rt.write_all(&whole[0..n]) {
+        fail(rt, b"list: standard output", error);
     }
 }
 
-fn write_listing(file: &[u8]) {
+fn write_listing(rt: &impl Runtime, file: &[u8]) {
     let mut out = [0u8; ROOM];
     let n = listing(file, &mut out);
-    write_start(&out, n);
+    write_start(rt, &out, n);
 }
 
-// Whether a read fails here. A short count of bytes is the file's end or a read that failed, and this tells which.
-fn is_unreadable(fd: i32) -> bool {
+// The error of a read that fails here. A short count of bytes is the file's end or a read that failed, and this tells which.
+fn read_error(input: &mut impl Read) -> Option<io::Error> {
     let mut byte = [0u8; 1];
-    libc::read(fd, &mut byte) < 0
+    input.read(&mut byte).err()
 }
 
-fn list_open(fd: i32, name: &[u8]) {
+fn list_open(rt: &impl Runtime, input: &mut impl Read, name: &[u8]) {
     let mut file = [0u8; MOST];
-    let n = io::read_full(fd, &mut file);
+    let n = read_full(input, &mut file);
     if n < MOST {
-        if is_unreadable(fd) {
-            os::fail(name);
+        if let Some(error) = read_error(input) {
+            fail(rt, name, error);
             return;
         }
     }
-    write_listing(&file[..n]);
+    write_listing(rt, &file[..n]);
 }
 
-fn list_named(path: &[u8]) {
-    let fd = os::open_read(path);
-    if fd < 0 {
-        os::fail(path);
-        return;
+fn list_named(rt: &impl Runtime, path: &[u8]) {
+    match open_read(rt, path) {
+        Err(error) => fail(rt, path, error),
+        Ok(mut file) => list_open(rt, &mut file, path),
     }
-    list_open(fd, path);
-    libc::close(fd);
 }
 
-fn list_argument(i: usize) {
-    let mut path = io::buffer();
-    let n = os::arg(i, &mut path);
-    if os::errno() != 0 {
-        os::fail(b"list: a file's name");
-        return;
+fn list_argument(rt: &impl Runtime, i: usize) {
+    let mut path = [0u8; PATH_MAX];
+    match arg(rt, i, &mut path) {
+        Err(error) => fail(rt, b"list: a file's name", error),
+        Ok(n) => list_named(rt, &path[..n]),
     }
-    list_named(&path[..n]);
 }
 
 // The program's own name is argument 0.
-fn list_arguments(count: usize) {
+fn list_arguments(rt: &impl Runtime, count: usize) {
     for i in 1..count {
-        list_argument(i);
+        list_argument(rt, i);
     }
 }
 
-fn main() {
-    let count = os::arg_count();
+fn main(rt: HostRuntime) {
+    let count = arg_count(&rt);
     if count < 2 {
-        list_open(STDIN_FILENO, b"standard input");
+        list_open(&rt, &mut rt.reader(), b"standard input");
         return;
     }
-    list_arguments(count);
+    list_arguments(&rt, count);
 }

@@ -4,10 +4,13 @@
 
 ghost use Rattle.std.specs.Prelude.{◌≤◌, length};
 
-use libc::{STDERR_FILENO, STDIN_FILENO, STDOUT_FILENO};
 use loadread::check;
 use loads::Saved;
 use maps::map;
+use std::io;
+use std::io::Read;
+use std::rt::Runtime;
+use streams::{PATH_MAX, arg, arg_count, complain, fail, open_read, read_full};
 
 // The most bytes that are taken of a file. The writer's file of a full memory has 69,127.
 const MOST: usize = 100000;
@@ -18,95 +21,83 @@ const ROOM: usize = 300016;
 // A map is of all addresses that there are.
 const ADDRESSES: usize = 65536;
 
-fn write_made(out: &[u8], made: Saved)
+fn write_made(rt: &impl Runtime, out: &[u8], made: Saved)
     requires { made.count ≤ length out.now }
 {
     let n = made.count;
-    if !io::write_all(STDOUT_FILENO, &out[0..n]) {
-        os::fail(b"loadmap: standard output");
+    if let Err(error) = rt.write_all(&out[0..n]) {
+        fail(rt, b"loadmap: standard output", error);
     }
 }
 
-fn write_map(file: &[u8]) {
+fn write_map(rt: &impl Runtime, file: &[u8]) {
     let mut room = [0u8; ROOM];
     let out = &mut room[..];
     let made = map(file, out);
-    write_made(out, made);
+    write_made(rt, out, made);
 }
 
-fn complain_of_length(name: &[u8]) {
-    io::write_all(STDERR_FILENO, name);
-    io::write_all(
-        STDERR_FILENO,
-        b": no end block within 100,000 bytes, which is all that is taken of a file\n",
+fn complain_of_length(rt: &impl Runtime, name: &[u8]) {
+    complain(
+        rt,
+        name,
+        "no end block within 100,000 bytes, which is all that is taken of a file",
     );
 }
 
-// What one more read gives: below 0 where it fails, above 0 where the file has more bytes.
-fn read_more(fd: i32) -> isize {
+// What one more read gives: an error where it fails, above 0 where the file has more bytes.
+fn read_more(input: &mut impl Read) -> io::Result<usize> {
     let mut byte = [0u8; 1];
-    libc::read(fd, &mut byte)
+    input.read(&mut byte)
 }
 
 // Of a file with more bytes than were taken: no byte behind them can change its map, unless its end block or first fault is among those.
-fn map_start(file: &[u8], name: &[u8]) {
+fn map_start(rt: &impl Runtime, file: &[u8], name: &[u8]) {
     let answer = check(file, ADDRESSES);
     if answer.number == 30 {
-        complain_of_length(name);
+        complain_of_length(rt, name);
         return;
     }
-    write_map(file);
+    write_map(rt, file);
 }
 
-fn map_open(fd: i32, name: &[u8]) {
+fn map_open(rt: &impl Runtime, input: &mut impl Read, name: &[u8]) {
     let mut file = [0u8; MOST];
-    let bytes = &mut file[..];
-    let n = io::read_full(fd, bytes);
-    let more = read_more(fd);
-    if more < 0 {
-        os::fail(name);
-        return;
+    let n = read_full(input, &mut file);
+    match read_more(input) {
+        Err(error) => fail(rt, name, error),
+        Ok(0) => write_map(rt, &file[..n]),
+        Ok(_) => map_start(rt, &file, name),
     }
-    if more > 0 {
-        map_start(bytes, name);
-        return;
-    }
-    let taken = &bytes[..];
-    write_map(&taken[0..n]);
 }
 
-fn map_named(path: &[u8]) {
-    let fd = os::open_read(path);
-    if fd < 0 {
-        os::fail(path);
-        return;
+fn map_named(rt: &impl Runtime, path: &[u8]) {
+    match open_read(rt, path) {
+        Err(error) => fail(rt, path, error),
+        Ok(mut file) => map_open(rt, &mut file, path),
     }
-    map_open(fd, path);
-    libc::close(fd);
 }
 
-fn map_argument(i: usize) {
-    let mut path = io::buffer();
-    let n = os::arg(i, &mut path);
-    if os::errno() != 0 {
-        os::fail(b"loadmap: a file's name");
-        return;
+fn map_argument(rt: &impl Runtime, i: usize) {
+    let mut path = [0u8; PATH_MAX];
+    match arg(rt, i, &mut path) {
+        Err(error) => fail(rt, b"loadmap: a file's name", error),
+        Ok(n) => map_named(rt, &path[..n]),
     }
-    map_named(&path[..n]);
 }
 
 // The program's own name is argument 0.
-fn map_arguments(count: usize) {
+fn map_arguments(rt: &impl Runtime, count: usize) {
     for i in 1..count {
-        map_argument(i);
+        map_argument(rt, i);
     }
 }
 
-fn main() {
-    let count = os::arg_count();
+fn main(rt: HostRuntime) {
+    let count = arg_count(&rt);
     if count < 2 {
-        map_open(STDIN_FILENO, b"standard input");
+        map_open(&rt, &mut rt.reader(), b"standard input");
         return;
     }
-    map_arguments(count);
+    map_arguments(&rt, count);
 }

@@ -2,7 +2,7 @@
 -- lies whole in the stream, and its data in the memory. The laws `part-..` say what each first byte gives.
 use Prim.Native.Nat.{ℕ, ◌+◌, ◌-◌, ◌%◌, ◌≤◌, ◌<◌}
 use native.Mathlib.Omega.{arith}
-use mathlib.Core.Path.{◌≡◌, refl, sym, ap, ◌∙◌}
+use mathlib.Core.Path.{◌≡◌, refl, sym, ◌∙◌}
 use mathlib.Core.Bool.{Bool, true, false, cond, true≢false}
 use mathlib.Core.List.{List, [], ◌∷◌}
 use borrow.Author.Tests.{le-ltb, eq-eqb, ne_eqb, eqb-true, ltb-false}
@@ -10,8 +10,7 @@ use lib.ListN.{length, get_or, take}
 use lib.Dec.{eqb, ltb}
 use Rattle.loads.specs.Blocks.{count_of, address_of, data_count, byte_sum, whole_block, is_short, start_number, count_number, is_end_block, is_outside}
 use Rattle.loads.specs.Blocks.{address_number, sum_number, first_refusal, block_number, block_by, part_of}
-use Rattle.loads.specs.declared.Part.{Part}
-use Rattle.loads.specs.declared.Part.TheVariants.{Gap, Block, End, Refused}
+use Rattle.loads.specs.declared.Part.TheVariants.{Gap, Refused}
 
 -- a test before a number that is no refusal
 fails : (t : Bool) (n x : ℕ) → (n ≡ 0 → ⊥) → cond t n x ≡ 0 → (t ≡ false) × (x ≡ 0)

@@ -12,8 +12,6 @@ use Rattle.loads.specs.Memory.{byte_at, put_byte, puts, bytes_at}
 use Rattle.loads.specs.Blocks.{pair_at, count_of, address_of, data_count, data_of, byte_sum, whole_block, is_end_block, right_block, block_by, part_of}
 use Rattle.loads.specs.Reading.{read_from, fill_from}
 use Rattle.loads.specs.Writing.{checksum, body, block, full_blocks, short_block, load_file}
-use Rattle.loads.specs.declared.Loaded.{Loaded}
-use Rattle.loads.specs.declared.Part.{Part}
 use Rattle.loads.specs.declared.Part.TheVariants.{Block, End}
 use Rattle.loads.proofs.Bytes.{length-bytes}
 use Rattle.loads.proofs.Parts.{Right, number-right, part-block}

@@ -3,7 +3,6 @@ use Rattle.std.specs.Prelude.{ℕ, ◌+◌, ◌≤◌, ◌<◌, ◌≡◌, ◌�
 use Rattle.loads.specs.Memory.{byte_at}
 use Rattle.loads.specs.Reading.{load_answer, load_memory}
 use Rattle.loads.specs.Writing.{save_answer, save_output}
-use Rattle.loads.specs.declared.Loaded.{Loaded}
 
 -- a memory of 16-bit words
 abbrev pub Words : List ℕ → Type 0

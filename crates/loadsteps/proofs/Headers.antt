@@ -5,10 +5,8 @@ use mathlib.Core.Path.{◌≡◌, refl}
 use mathlib.Core.List.{List, ◌∷◌}
 use borrow.Author.Tests.{le-ltb}
 use Rattle.loadsteps.specs.Step.{after_start, after_one, after_count, after_header, role_of, passed_by}
-use Rattle.loadsteps.specs.Run.{read}
 use Rattle.loadsteps.specs.declared.Phase.{Phase}
 use Rattle.loadsteps.specs.declared.Phase.TheVariants.{Start, Zero, CountLow, CountHigh, AddressLow, AddressHigh}
-use Rattle.loadsteps.specs.declared.Reader.{Reader}
 use Rattle.loadsteps.proofs.Runs.{at, Goes, goes_both, goes_byte}
 
 -- the bytes of a header, where a block starts after bytes of the sum x

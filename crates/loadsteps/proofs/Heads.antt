@@ -1,14 +1,14 @@
 -- Refusals that Req 11 reports, with what was stored and where it was shown (`Refuses`): of a block whose header is wrong, and, where its data are told,
 -- of one that the input ends in or whose checksum is wrong.
-use Prim.Native.Nat.{ℕ, zero, ◌+◌, ◌*◌, ◌-◌, ◌≤◌, ◌<◌}
+use Prim.Native.Nat.{ℕ, ◌+◌, ◌*◌, ◌-◌, ◌≤◌, ◌<◌}
 use native.Mathlib.Nat.{add-zero}
 use native.Mathlib.Omega.{arith}
 use mathlib.Core.Path.{◌≡◌, refl}
-use mathlib.Core.Bool.{Bool, true, false, cond}
+use mathlib.Core.Bool.{true, false}
 use mathlib.Core.List.{List, [], ◌∷◌}
 use borrow.Author.Tests.{lt-ltb, ne_eqb}
 use lib.ListN.{length}
-use lib.Dec.{eqb, ltb}
+use lib.Dec.{ltb}
 use Rattle.loads.specs.Memory.{puts}
 use Rattle.loads.specs.Blocks.{count_of, address_of, data_of}
 use Rattle.loads.specs.declared.Part.TheVariants as parts
@@ -17,7 +17,6 @@ use Rattle.loadsteps.specs.Whole.{shown_at, held_of}
 use Rattle.loadsteps.specs.declared.Phase.{Phase}
 use Rattle.loadsteps.specs.declared.Phase.TheVariants.{Start, Zero, CountHigh}
 use Rattle.loadsteps.specs.declared.Phase.TheVariants as phases
-use Rattle.loadsteps.specs.declared.Reader.{Reader}
 use Rattle.loadsteps.specs.declared.Answer.TheVariants.{Refused}
 use Rattle.loadsteps.proofs.Runs.{at, Goes, goes_both, goes_byte}
 use Rattle.loadsteps.proofs.Headers.{goes_one, goes_low, goes_header}

@@ -1,25 +1,22 @@
 -- Each stream that begins with no zero is a right block or a refused one, by Req 10's tests; and the reader comes to the same (`Comes`). Here are the
 -- streams that don't reach a block's data: the tests that are passed are put aside, and the first that is not gives the number, or the bytes end.
-use Prim.Native.Nat.{ℕ, zero, ◌+◌, ◌*◌, ◌-◌, ◌≤◌, ◌<◌}
+use Prim.Native.Nat.{ℕ, ◌+◌, ◌*◌, ◌-◌, ◌≤◌, ◌<◌}
 use native.Mathlib.Nat.{add-zero}
 use native.Mathlib.Omega.{arith}
 use mathlib.Core.Path.{◌≡◌, refl, ◌∙◌}
-use mathlib.Core.Bool.{Bool, true, false, cond}
+use mathlib.Core.Bool.{true, false}
 use mathlib.Core.List.{List, [], ◌∷◌}
 use borrow.Author.Tests.{lt-ltb, le-ltb, ne_eqb}
-use lib.ListN.{length, take, drop, drop_of_length-le}
+use lib.ListN.{length, drop, drop_of_length-le}
 use lib.Seq.{take-nil}
-use lib.Dec.{eqb, ltb}
 use Rattle.loads.specs.Memory.{puts}
 use Rattle.loads.specs.Blocks.{pair_at, count_of, address_of, data_count, data_of, is_short, is_end_block, is_outside}
 use Rattle.loads.specs.Blocks.{start_number, count_number, address_number, sum_number, first_refusal, block_number}
-use Rattle.loads.proofs.Bytes.{decide}
 use Rattle.loads.proofs.Parts.{is-long}
 use Rattle.loadsteps.specs.Step.{role_of, decided_by}
 use Rattle.loadsteps.specs.declared.Phase.{Phase}
 use Rattle.loadsteps.specs.declared.Phase.TheVariants.{Start, Zero, CountLow, CountHigh, AddressLow, AddressHigh}
 use Rattle.loadsteps.specs.declared.Phase.TheVariants as phases
-use Rattle.loadsteps.specs.declared.Reader.{Reader}
 use Rattle.loadsteps.proofs.Runs.{at, Goes}
 use Rattle.loadsteps.proofs.Headers.{goes_one, goes_zero, goes_low, goes_count, goes_address}
 use Rattle.loadsteps.proofs.Heads.{Refuses, short}

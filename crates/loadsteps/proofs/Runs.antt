@@ -5,8 +5,8 @@ use Prim.Native.Nat.{ℕ, zero, suc, ◌+◌, ◌-◌, ◌%◌, ◌≤◌, ◌<�
 use native.Mathlib.Nat.{mod-add-mod}
 use native.Mathlib.Numerals.{unary_clauses}
 use native.Mathlib.Omega.{arith}
-use mathlib.Core.Path.{◌≡◌, refl, ap, ◌∙◌}
-use mathlib.Core.Bool.{Bool, true, false, cond, false≢true}
+use mathlib.Core.Path.{◌≡◌, refl, ◌∙◌}
+use mathlib.Core.Bool.{true, false, cond, false≢true}
 use mathlib.Core.List.{List, [], ◌∷◌, ◌++◌}
 use borrow.Author.Tests.{lt-ltb, ne_eqb}
 use lib.ListN.{length}
@@ -16,7 +16,7 @@ use Rattle.loads.specs.Blocks.{byte_sum}
 use Rattle.loadsteps.specs.Step.{capped, up, after_data, due, role_of, decided_by, is_data, passed_by, decided, kept_by, moved, next}
 use Rattle.loadsteps.specs.Run.{read, fill}
 use Rattle.loadsteps.specs.declared.Phase.{Phase}
-use Rattle.loadsteps.specs.declared.Phase.TheVariants.{Data, Refused}
+use Rattle.loadsteps.specs.declared.Phase.TheVariants.{Data}
 use Rattle.loadsteps.specs.declared.Role.{Role}
 use Rattle.loadsteps.specs.declared.Role.TheVariants.{Passing, Storing}
 use Rattle.loadsteps.specs.declared.Role.TheVariants as roles

@@ -2,10 +2,10 @@
 -- reader that is decided answers at once; and one that is not, with no byte left, is provisional and at the end call refused by 30.
 use Prim.Native.Nat.{ℕ}
 use mathlib.Core.Path.{◌≡◌, refl, ap, ◌∙◌}
-use mathlib.Core.Bool.{Bool, true, false, true≢false}
+use mathlib.Core.Bool.{false, true≢false}
 use mathlib.Core.List.{List, []}
 use borrow.Author.Tests.{ne_eqb}
-use Rattle.loadsteps.specs.Step.{role_of, decided_by, decided}
+use Rattle.loadsteps.specs.Step.{role_of, decided_by}
 use Rattle.loadsteps.specs.Run.{read, fill, ended, answer_by, answer_now}
 use Rattle.loadsteps.specs.Whole.{until_end, in_counters}
 use Rattle.loadsteps.specs.declared.Phase.{Phase}

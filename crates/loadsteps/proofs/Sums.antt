@@ -1,15 +1,14 @@
 -- Behind the header: the data that are there are stored in a row. Are they too few, the input has ended; else the next byte is the checksum, and with
 -- it the reader's sum is that of the whole block. So the reader refuses by 30 or 31, or goes on, where Req 10's last test does.
-use Prim.Native.Nat.{ℕ, zero, suc, ◌+◌, ◌*◌, ◌-◌, ◌%◌, ◌≤◌, ◌<◌}
+use Prim.Native.Nat.{ℕ, suc, ◌+◌, ◌*◌, ◌-◌, ◌%◌, ◌≤◌, ◌<◌}
 use native.Mathlib.Nat.{add-zero}
 use native.Mathlib.Omega.{arith}
-use mathlib.Core.Path.{◌≡◌, refl, ap, ◌∙◌}
-use mathlib.Core.Bool.{Bool, false}
+use mathlib.Core.Path.{◌≡◌, refl, ◌∙◌}
+use mathlib.Core.Bool.{false}
 use mathlib.Core.List.{List, [], ◌∷◌, ◌++◌, append-nil}
 use borrow.Author.Tests.{lt-ltb, le-ltb, eq-eqb, ne_eqb}
 use lib.ListN.{length, get_or, take, drop, take-append-drop}
 use lib.Seq.{take_all, take-suc, length-take-le, drop-cons}
-use lib.Dec.{eqb}
 use Rattle.loads.specs.Memory.{puts}
 use Rattle.loads.specs.Blocks.{pair_at, count_of, address_of, data_count, data_of, byte_sum, whole_block, is_short, is_end_block, is_outside, sum_number, block_number}
 use Rattle.loads.proofs.Bytes.{decide}

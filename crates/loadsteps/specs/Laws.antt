@@ -2,7 +2,6 @@
 use Rattle.std.specs.Prelude.{ℕ, ◌<◌, ◌≡◌, true, List, [], ◌∷◌, length}
 use Rattle.loads.specs.Memory.{limit}
 use Rattle.loads.specs.Reading.{load_answer, load_memory}
-use Rattle.loads.specs.declared.Loaded.{Loaded}
 use Rattle.loadsteps.specs.Step.{decided}
 use Rattle.loadsteps.specs.Run.{read, fill, whole_input, ended, answer_now}
 use Rattle.loadsteps.specs.Whole.{report, stored_from, until_end, loaded_of, in_counters}

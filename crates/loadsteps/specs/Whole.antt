@@ -1,6 +1,6 @@
 -- The answer and the memory of the whole input (document 02, Req 11), however it was cut: part by part, as Req 10 reads a stream. Counts are exact
 -- here; what a counter of 64 bits shows of them is said last.
-use Rattle.std.specs.Prelude.{ℕ, zero, suc, ◌+◌, Bool, cond, List, [], ◌∷◌, length, get_or, eqb, ltb}
+use Rattle.std.specs.Prelude.{ℕ, zero, suc, ◌+◌, cond, List, [], ◌∷◌, length, get_or, eqb, ltb}
 use Rattle.loads.specs.Memory.{puts}
 use Rattle.loads.specs.Blocks.{address_of, count_of, data_of, part_of}
 use Rattle.loads.specs.Reading.{goes_on, rest_of}

@@ -21,7 +21,7 @@ use Rattle.names.specs.declared.radix.Field.TheVariants.{Characters, Spaces, Wro
 use Rattle.names.specs.declared.radix.NameWords.{NameWords}
 use Rattle.names.specs.declared.radix.NameText.{NameText}
 use Rattle.bools.proofs.Bools.{both, either, either_side}
-use Rattle.bools.proofs.Below.{every, below}
+use Rattle.bools.proofs.Below.{below}
 
 -- the alphabet's rule: no byte stands in it twice
 pub code_shown : (c : ℕ) → c < 40 → code_of (shown c) ≡ c

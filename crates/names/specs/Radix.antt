@@ -1,5 +1,5 @@
 -- Names (document 01, "Names and dates"): Radix-50 words and the text that they spell. Text is a list of bytes.
-use Rattle.std.specs.Prelude.{ℕ, zero, suc, ◌+◌, ◌*◌, ◌/◌, ◌%◌, Bool, true, cond, ◌&&◌, ◌||◌, List, [], ◌∷◌, ◌++◌, length, get_or, take, drop, replicate, eqb, leb}
+use Rattle.std.specs.Prelude.{ℕ, suc, ◌+◌, ◌*◌, ◌/◌, ◌%◌, Bool, true, cond, ◌&&◌, ◌||◌, List, [], ◌∷◌, ◌++◌, length, get_or, take, drop, replicate, eqb, leb}
 use Prim.Native.Char.{code}
 use Rattle.names.specs.Text.{bytes}
 use Rattle.names.specs.declared.radix.NameWords.{NameWords}

@@ -14,7 +14,7 @@ use Rattle.loads.specs.Memory.{limit, put_byte, puts}
 use Rattle.loads.specs.Blocks.{byte_sum}
 use Rattle.loads.proofs.Bytes.{decide}
 use Rattle.loads.proofs.Streams.{rest-is}
-use Rattle.loadsteps.specs.Step.{up, after_data, due, role_of, is_data, data_place, decided, kept_by, next}
+use Rattle.loadsteps.specs.Step.{up, after_data, role_of, is_data, data_place, decided, kept_by, next}
 use Rattle.loadsteps.specs.Run.{read, fill}
 use Rattle.pieces.specs.Turns.{run_length, behind, Ready, PassedOver, Took}
 use Rattle.loadsteps.specs.declared.Phase.{Phase}

@@ -3,7 +3,6 @@ use Rattle.std.specs.Prelude.{ℕ, ◌+◌, ◌-◌, ◌*◌, ◌%◌, ◌≤◌
 use Rattle.loads.specs.Blocks.{byte_sum, count_of, address_of}
 use Rattle.loadsteps.specs.Step.{up, decided}
 use Rattle.loadsteps.specs.Run.{read, fill}
-use Rattle.loadsteps.specs.declared.Phase.{Phase}
 use Rattle.loadsteps.specs.declared.Phase.TheVariants.{Data}
 use Rattle.loadsteps.specs.declared.Reader.{Reader}
 

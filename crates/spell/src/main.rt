@@ -6,8 +6,9 @@
 ghost use Rattle.std.specs.Prelude.{◌≡◌, ◌<◌, length};
 
 use dates::{day_of_word, is_good_date, word_of_day};
-use libc::{STDIN_FILENO, STDOUT_FILENO};
 use names::{is_legal_name, text_of_words, words_of_text};
+use std::io::Read;
+use streams::read_full;
 
 // Adler's check sum: but for rare chances it shows every wrong number, and right ones in a wrong order.
 
@@ -49,6 +50,11 @@ impl Sum {
     fn value(self) -> u64 {
         self.high as u64 * 65536 + self.low as u64
     }
+}
+
+// Writes the bytes to standard output. Where it takes no more they are lost, as is all that follows, and what the program wrote shows that.
+fn show(rt: &impl Print, bytes: &[u8]) {
+    let _ = rt.write_all(bytes);
 }
 
 // The texts that document 000 prints with their Radix-50 words, against the words that `names` makes of them. The input has a row of
@@ -101,34 +107,34 @@ fn is_spelled_back(word: u16, group: &[u8]) -> bool
     let spelled = text_of_words(0, 0, word);
     let text = spelled.text;
     let expected = text_with(b' ', group);
-    check::same(&text, &expected)
+    text == expected
 }
 
 // Writes the formula's word where the scan has one, and answers whether the two agree. What the scan lacks can't differ.
-fn show_group(group: &[u8], scanned: &[u8]) -> bool
-    requires value { 3 ≡ length group.now }
-    requires value_2 { 6 ≡ length scanned.now }
+fn show_group(rt: &impl Print, group: &[u8], scanned: &[u8]) -> bool
+    requires group_length { 3 ≡ length group.now }
+    requires scanned_length { 6 ≡ length scanned.now }
 {
     if scanned[0] == b' ' {
         return true;
     }
     let word = word_of_group(group);
     let digits = octal(word);
-    io::write_all(STDOUT_FILENO, b" ");
-    io::write_all(STDOUT_FILENO, &digits);
-    if !check::same(&digits, scanned) {
+    show(rt, b" ");
+    show(rt, &digits);
+    if digits.as_slice() != scanned {
         return false;
     }
     is_spelled_back(word, group)
 }
 
 // All three words are written before any is judged.
-fn show_groups(row: &[u8]) -> bool
+fn show_groups(rt: &impl Print, row: &[u8]) -> bool
     requires { 31 ≡ length row.now }
 {
-    let first = show_group(&row[0..3], &row[10..16]);
-    let second = show_group(&row[3..6], &row[17..23]);
-    let third = show_group(&row[6..9], &row[24..30]);
+    let first = show_group(rt, &row[0..3], &row[10..16]);
+    let second = show_group(rt, &row[3..6], &row[17..23]);
+    let third = show_group(rt, &row[6..9], &row[24..30]);
     if !first {
         return false;
     }
@@ -138,31 +144,34 @@ fn show_groups(row: &[u8]) -> bool
     third
 }
 
-fn show_row(row: &[u8])
+fn show_row(rt: &impl Print, row: &[u8])
     requires { 31 ≡ length row.now }
 {
-    io::write_all(STDOUT_FILENO, &row[0..9]);
-    if show_groups(row) {
-        io::write_all(STDOUT_FILENO, b" same\n");
+    show(rt, &row[0..9]);
+    if show_groups(rt, row) {
+        show(rt, b" same\n");
     } else {
-        io::write_all(STDOUT_FILENO, b" differs\n");
+        show(rt, b" differs\n");
     }
 }
 
 // A row that is cut off at the end is not shown, and so the output lacks a line.
-fn show_rows(rows: &[u8]) {
+fn show_rows(rt: &impl Print, rows: &[u8]) {
     let mut at = 0;
     while 31 <= rows.len() - at {
-        show_row(&rows[at..at + 31]);
+        show_row(rt, &rows[at..at + 31]);
         at += 31;
     }
 }
 
-// One buffer holds three times the rows that document 000 has.
-fn show_input() {
-    let mut bytes = io::buffer();
-    let n = io::read_full(STDIN_FILENO, &mut bytes);
-    show_rows(&bytes[..n]);
+// Three times the rows that document 000 has.
+const BUFFER: usize = 4096;
+
+// Shows the rows that the input holds, as far as one buffer takes them.
+fn show_input(rt: &impl Print, input: &mut impl Read) {
+    let mut bytes = [0u8; BUFFER];
+    let n = read_full(input, &mut bytes);
+    show_rows(rt, &bytes[..n]);
 }
 
 // Each function of `names` over every word, or every text or day of a kind, as a check sum of its answers.
@@ -307,17 +316,16 @@ fn dates() -> Sum {
     sum
 }
 
-fn show_sum(name: &[u8], sum: Sum) {
-    io::write_all(STDOUT_FILENO, name);
-    io::print_decimal(STDOUT_FILENO, sum.value());
-    io::write_all(STDOUT_FILENO, b"\n");
+fn show_sum(rt: &impl Print, name: &[u8], sum: Sum) {
+    show(rt, name);
+    let _ = println!(rt; "{}", sum.value());
 }
 
-fn main() {
-    show_input();
-    show_sum(b"words ", words());
-    show_sum(b"legal ", legal());
-    show_sum(b"texts ", texts());
-    show_sum(b"days ", days());
-    show_sum(b"dates ", dates());
+fn main(rt: HostRuntime) {
+    show_input(&rt, &mut rt.reader());
+    show_sum(&rt, b"words ", words());
+    show_sum(&rt, b"legal ", legal());
+    show_sum(&rt, b"texts ", texts());
+    show_sum(&rt, b"days ", days());
+    show_sum(&rt, b"dates ", dates());
 }

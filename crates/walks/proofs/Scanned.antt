@@ -9,7 +9,7 @@ use Rattle.meaning.specs.declared.Kind.TheVariants.{Tentative, Empty, Permanent,
 use Rattle.meaning.specs.Kinds.{is_unknown}
 use Rattle.meaning.specs.Words.{Entry, kind, upto}
 use Rattle.walks.specs.Scan.{long_named, scan_bad}
-use Rattle.meaning.specs.Sound.{any, unmarked, long_name, bad_name, begins_empty, alone, bad_slots}
+use Rattle.meaning.specs.Sound.{any, unmarked, bad_name, begins_empty, alone, bad_slots}
 
 -- the faults of a slot (p, b as above; x: it is a tentative entry and no empty one follows) and of those after it (u: an unknown
 -- status; m: no marker; n: a bad name; a: a tentative entry alone), in the order of the scan and in that of the rule

@@ -1,5 +1,4 @@
 -- `day_of_word` meets its contract: a return for each of a word that names a day, word 0, and a bad word.
-use borrow.Author.Rules.{rules}
 use mathlib.Core.Path.{sym, ◌∙◌}
 use borrow.Author.Tests.{ne_eqb}
 use Rattle.dates.specs.Dates.{day_of_word, day_field, month_field}

@@ -1,5 +1,4 @@
 -- `in_calendar` meets its contract: its four tests are the definition's, in order.
-use borrow.Author.Rules.{rules}
 use mathlib.Core.Path.{◌≡◌}
 use mathlib.Core.Bool.{true, ◌&&◌}
 use lib.Dec.{leb}

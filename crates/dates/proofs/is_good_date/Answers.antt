@@ -1,5 +1,4 @@
 -- `is_good_date` meets its contract: word 0, or a word that names a day.
-use borrow.Author.Rules.{rules}
 use borrow.Author.Tests.{eq-eqb, ne_eqb}
 use Rattle.dates.specs.Dates.{good_date}
 use Rattle.dates.proofs.is_good_date.Goals as goal

@@ -1,5 +1,4 @@
 -- `names_day` meets its contract: the day of the fields is in the calendar.
-use borrow.Author.Rules.{rules}
 use Rattle.dates.specs.Dates.{names_day, day_field, month_field}
 use Rattle.dates.proofs.names_day.Goals as goal
 

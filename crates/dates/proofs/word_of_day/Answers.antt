@@ -1,5 +1,4 @@
 -- `word_of_day` meets its contract: under the calendar's test the word is the definition's.
-use borrow.Author.Rules.{rules}
 use mathlib.Core.Path.{sym, ◌∙◌}
 use Rattle.dates.specs.Dates.{word_of_day}
 use Rattle.dates.proofs.word_of_day.Goals as goal

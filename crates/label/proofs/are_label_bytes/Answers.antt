@@ -1,11 +1,7 @@
 -- `are_label_bytes` meets its contract: the loop keeps that what is left is a string of label bytes exactly where the whole is (laws of
 -- Labels).
-use borrow.Author.Rules.{rules}
-use Prim.Native.Nat.{◌-◌, ◌≤◌}
-use mathlib.Core.Path.{◌≡◌, refl, sym, ◌∙◌}
+use mathlib.Core.Path.{refl, sym, ◌∙◌}
 use native.Mathlib.Omega.{arith}
-use lib.ListN.{length, drop}
-use Rattle.label.specs.Labels.{are_label_bytes}
 use Rattle.label.proofs.Labels.{byte_below, byte_above, byte_good, bytes-ended}
 use Rattle.label.proofs.are_label_bytes.Goals as goal
 

@@ -1,5 +1,4 @@
 -- `put_at` meets its contract: the part is as long as the text (law `copied_in`).
-use borrow.Author.Rules.{rules}
 use Rattle.label.proofs.Labels.{copied_in}
 use Rattle.label.proofs.put_at.Goals as goal
 

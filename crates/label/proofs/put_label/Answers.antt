@@ -1,5 +1,4 @@
 -- `put_label` meets its contract: the three texts are put one after the other.
-use borrow.Author.Rules.{rules}
 use Rattle.names.specs.Text.{bytes}
 use Rattle.label.specs.Labels.{system_mark, labelled_with}
 use Rattle.label.proofs.put_label.Goals as goal

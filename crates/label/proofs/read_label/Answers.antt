@@ -1,8 +1,6 @@
 -- `read_label` meets its contract: each test decides one of the reader's four ways (laws `no_block`, `no-mark`, `bad-label`, `good-label`).
-use borrow.Author.Rules.{rules}
 use mathlib.Core.Path.{◌≡◌, sym, ◌∙◌}
 use mathlib.Core.Bool.{true}
-use borrow.Author.Tests.{not-true, not-false}
 use Rattle.names.specs.Text.{bytes}
 use Rattle.label.specs.Labels.{system_mark, is_marked, twelve_at, with_label}
 use Rattle.label.proofs.Labels.{no_block, no-mark, bad-label, good-label}

@@ -1,6 +1,4 @@
 -- `twelve_at` meets its contract: the whole array is copied over (law `copied-out`).
-use borrow.Author.Rules.{rules}
-use mathlib.Core.Path.{refl}
 use Rattle.label.proofs.Labels.{copied-out}
 use Rattle.label.proofs.twelve_at.Goals as goal
 

@@ -1,8 +1,7 @@
 -- `write_label` meets its contract: what fails one of the tests can not be written (law `not_written`), and the rest is (law `is-written`).
-use borrow.Author.Rules.{rules}
 use mathlib.Core.Path.{◌≡◌, sym, ◌∙◌}
-use mathlib.Core.Bool.{true, false}
-use borrow.Author.Tests.{eq-eqb, ne_eqb, not-true, not-false}
+use mathlib.Core.Bool.{true}
+use borrow.Author.Tests.{eq-eqb, ne_eqb}
 use lib.ListN.{length}
 use Rattle.label.specs.Labels.{is_block, are_label_bytes, is_label, is_writable}
 use Rattle.label.proofs.Labels.{not_written, is-written}

@@ -1,5 +1,4 @@
 -- `answer_of` meets its contract, arm by arm.
-use borrow.Author.Rules.{rules}
 use Rattle.loadread.proofs.answer_of.Goals as goal
 
 pub returns-in-Gap : goal.returns-in-Gap

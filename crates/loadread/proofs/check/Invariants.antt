@@ -1,10 +1,7 @@
 -- `check` meets its contract: each turn leaves what `Checking` says of the stream behind the part (laws `check_goes`, `check-ends`).
-use borrow.Author.Rules.{rules}
-use native.Mathlib.Omega.{arith}
 use Prim.Native.Nat.{◌-◌}
-use mathlib.Core.Path.{sym, ◌∙◌}
 use lib.ListN.{length}
-use Rattle.loadread.proofs.Known.{Checking, check-begins, check-passes, check_goes, check-ends}
+use Rattle.loadread.proofs.Known.{Checking}
 use Rattle.loadread.proofs.check.Given as goal
 
 abbrev pub invariant-loop-part : goal.invariant-loop-part

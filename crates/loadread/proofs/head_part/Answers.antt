@@ -1,5 +1,4 @@
 -- `head_part` meets its contract: its test is that of `head_part`.
-use borrow.Author.Rules.{rules}
 use mathlib.Core.Path.{sym, ◌∙◌}
 use Rattle.loadread.proofs.Known.{head-gap, head-block}
 use Rattle.loadread.proofs.head_part.Goals as goal

@@ -1,5 +1,4 @@
 -- `load` meets its contract: the answer decides whether anything is stored (laws `load_refused`, `load_stored`).
-use borrow.Author.Rules.{rules}
 use Rattle.loads.specs.Reading.{load_answer}
 use Rattle.loadread.proofs.Known.{load_refused, load_stored}
 use Rattle.loadread.proofs.load.Goals as goal

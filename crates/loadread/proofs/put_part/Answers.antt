@@ -1,5 +1,4 @@
 -- `put_part` meets its contract: only the arm of a data block writes, and it lends on the data (laws `block-has`, `block_room`, `block-stored`).
-use borrow.Author.Rules.{rules}
 use native.Mathlib.Omega.{arith}
 use Rattle.loadread.proofs.Known.{block-has, block_room, block-stored}
 use Rattle.loadread.proofs.put_part.Goals as goal

@@ -1,11 +1,8 @@
 -- `store` meets its contract: each turn leaves what `Storing` says of the stream behind the part (laws `store_goes`, `store_ends`).
-use borrow.Author.Rules.{rules}
 use native.Mathlib.Omega.{arith}
-use Prim.Native.Nat.{◌-◌}
 use mathlib.Core.Path.{sym, ◌∙◌}
-use lib.ListN.{length}
 use Rattle.loads.specs.Reading.{load_answer}
-use Rattle.loadread.proofs.Known.{has-head, Storing, store_begins, store_has, store_passes, store_head, store_goes, store_ends}
+use Rattle.loadread.proofs.Known.{has-head, store_begins, store_has, store_passes, store_head, store_goes, store_ends}
 use Rattle.loadread.proofs.store.Goals as goal
 
 pub head_part-part-requires : goal.head_part-part-requires

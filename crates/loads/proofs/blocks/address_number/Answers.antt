@@ -1,5 +1,4 @@
 -- `address_number` meets its contract: its tests are those of `address_number`, of which the end block passes the second.
-use borrow.Author.Rules.{rules}
 use native.Mathlib.Omega.{arith}
 use mathlib.Core.Path.{sym, ◌∙◌}
 use borrow.Author.Tests.{lt-ltb, le-ltb, eq-eqb, ne_eqb}

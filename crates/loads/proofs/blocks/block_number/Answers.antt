@@ -1,5 +1,4 @@
 -- `block_number` meets its contract: the first number that is not 0 is answered (laws `first-zero`, `first-not`).
-use borrow.Author.Rules.{rules}
 use mathlib.Core.Path.{sym, ◌∙◌}
 use Rattle.loads.specs.Blocks.{block_number}
 use Rattle.loads.proofs.Parts.{first-zero, first-not, counted}

@@ -1,5 +1,4 @@
 -- `count_number` meets its contract: its tests are those of `count_number`.
-use borrow.Author.Rules.{rules}
 use borrow.Author.Tests.{lt-ltb, le-ltb}
 use Rattle.loads.specs.Blocks.{count_of, is_short, count_number}
 use Rattle.loads.proofs.blocks.count_number.Goals as goal

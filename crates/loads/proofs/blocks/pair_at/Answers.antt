@@ -1,5 +1,4 @@
 -- `pair_at` meets its contract: two bytes, each below 256, make a 16-bit number.
-use borrow.Author.Rules.{rules}
 use native.Mathlib.Omega.{arith}
 use Prim.Native.Nat.{◌+◌}
 use mathlib.Core.Path.{refl}

@@ -1,5 +1,4 @@
 -- `part_of` meets its contract: each first byte gives its part (laws `part_none`, `part-gap`, `part-block`).
-use borrow.Author.Rules.{rules}
 use native.Mathlib.Omega.{arith}
 use mathlib.Core.Path.{sym, ◌∙◌}
 use borrow.Author.Tests.{eq-eqb, ne_eqb}

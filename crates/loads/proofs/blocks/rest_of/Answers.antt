@@ -1,5 +1,4 @@
 -- `rest_of` meets its contract, arm by arm.
-use borrow.Author.Rules.{rules}
 use Rattle.loads.proofs.blocks.rest_of.Goals as goal
 
 pub returns-in-Block : goal.returns-in-Block

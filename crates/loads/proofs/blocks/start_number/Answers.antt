@@ -1,5 +1,4 @@
 -- `start_number` meets its contract: its tests are those of `start_number`.
-use borrow.Author.Rules.{rules}
 use borrow.Author.Tests.{lt-ltb, le-ltb, eq-eqb, ne_eqb}
 use Rattle.loads.specs.Blocks.{is_short, start_number}
 use Rattle.loads.proofs.blocks.start_number.Goals as goal

@@ -1,5 +1,4 @@
 -- `sum_number` meets its contract: its tests are those of `sum_number` (laws `sum-bad`, `sum-good`).
-use borrow.Author.Rules.{rules}
 use native.Mathlib.Omega.{arith}
 use Prim.Native.Nat.{◌+◌, ◌≤◌}
 use lib.ListN.{length}

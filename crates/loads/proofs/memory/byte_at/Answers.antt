@@ -1,5 +1,4 @@
 -- `byte_at` meets its contract: its test is that of `byte_at`.
-use borrow.Author.Rules.{rules}
 use native.Mathlib.Omega.{arith}
 use Prim.Native.Nat.{◌/◌}
 use borrow.Author.Tests.{eq-eqb, ne_eqb}

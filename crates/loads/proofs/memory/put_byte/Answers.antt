@@ -1,5 +1,4 @@
 -- `put_byte` meets its contract: the word is read, made anew and written back.
-use borrow.Author.Rules.{rules}
 use Rattle.loads.specs.Memory.{put_byte}
 use Rattle.loads.proofs.memory.put_byte.Goals as goal
 

@@ -1,5 +1,4 @@
 -- `put_bytes` meets its contract: at an odd address the first byte goes by itself (laws `puts_none`, `puts_first`).
-use borrow.Author.Rules.{rules}
 use native.Mathlib.Omega.{arith}
 use mathlib.Core.Path.{◌∙◌}
 use Rattle.loads.proofs.Bytes.{puts_none, puts_first}

@@ -1,9 +1,6 @@
 -- `put_pairs` meets its contract: each turn leaves what `Filling` says (laws `fill_pair`, `fill_byte`, `fill-ends`).
-use borrow.Author.Rules.{rules}
 use native.Mathlib.Omega.{arith}
-use Prim.Native.Nat.{◌-◌}
-use lib.ListN.{length}
-use Rattle.loads.proofs.Bytes.{Filling, fill_begins, fill_pair, fill_byte, fill-ends}
+use Rattle.loads.proofs.Bytes.{fill_begins, fill_pair, fill_byte, fill-ends}
 use Rattle.loads.proofs.memory.put_pairs.Goals as goal
 
 pub loop-i-init : goal.loop-i-init

@@ -1,9 +1,7 @@
 -- `put_pairs` meets its contract: each turn leaves what `Filling` says (laws `fill_pair`, `fill_byte`, `fill-ends`).
-use borrow.Author.Rules.{rules}
-use native.Mathlib.Omega.{arith}
 use Prim.Native.Nat.{◌-◌}
 use lib.ListN.{length}
-use Rattle.loads.proofs.Bytes.{Filling, fill_begins, fill_pair, fill_byte, fill-ends}
+use Rattle.loads.proofs.Bytes.{Filling}
 use Rattle.loads.proofs.memory.put_pairs.Given as goal
 
 abbrev pub invariant-loop-i : goal.invariant-loop-i

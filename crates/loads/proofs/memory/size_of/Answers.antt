@@ -1,5 +1,4 @@
 -- `size_of` meets its contract: the smaller of the two numbers, by one test.
-use borrow.Author.Rules.{rules}
 use native.Mathlib.Omega.{arith}
 use native.Mathlib.Nat.{min-eq_left, min-eq_right}
 use mathlib.Core.Path.{sym}

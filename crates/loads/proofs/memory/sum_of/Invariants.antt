@@ -1,11 +1,8 @@
 -- `sum_of` meets its contract: the loop keeps that the sum so far, with that of what is left, is the sum of all modulo 256 (laws `sum-next`, `sum-last`).
-use borrow.Author.Rules.{rules}
-use native.Mathlib.Omega.{arith}
 use Prim.Native.Nat.{◌+◌, ◌-◌, ◌%◌, ◌≤◌, ◌<◌}
 use mathlib.Core.Path.{◌≡◌}
 use lib.ListN.{length, drop}
 use Rattle.loads.specs.Blocks.{byte_sum}
-use Rattle.loads.proofs.Bytes.{sum-next, sum-last}
 use Rattle.loads.proofs.memory.sum_of.Given as goal
 
 abbrev pub invariant-loop-i : goal.invariant-loop-i

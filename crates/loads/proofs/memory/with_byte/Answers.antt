@@ -1,5 +1,4 @@
 -- `with_byte` meets its contract: its test is that of `with_byte`.
-use borrow.Author.Rules.{rules}
 use borrow.Author.Tests.{eq-eqb, ne_eqb}
 use Rattle.loads.specs.Memory.{with_byte}
 use Rattle.loads.proofs.memory.with_byte.Goals as goal

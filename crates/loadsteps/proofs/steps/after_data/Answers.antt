@@ -1,5 +1,4 @@
 -- `after_data` meets its contract: its tests are those of `after_data`, in its order.
-use borrow.Author.Rules.{rules}
 use borrow.Author.Tests.{eq-eqb, ne_eqb, lt-ltb, le-ltb}
 use Rattle.loadsteps.specs.Step.{after_data}
 use Rattle.loadsteps.proofs.steps.after_data.Goals as goal

@@ -1,5 +1,4 @@
 -- `after_header` meets its contract: its tests are those of `after_header`, in its order.
-use borrow.Author.Rules.{rules}
 use borrow.Author.Tests.{eq-eqb, ne_eqb, lt-ltb, le-ltb}
 use Rattle.loadsteps.specs.Step.{after_header}
 use Rattle.loadsteps.proofs.steps.after_header.Goals as goal

@@ -1,5 +1,4 @@
 -- `due_after` meets its contract: each arm is the case of `due` of its phase.
-use borrow.Author.Rules.{rules}
 use Rattle.loadsteps.proofs.steps.due_after.Goals as goal
 
 pub returns-in-Start : goal.returns-in-Start

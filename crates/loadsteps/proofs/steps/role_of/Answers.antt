@@ -1,5 +1,4 @@
 -- `role_of` meets its contract: each arm is the case of `role_of` of its phase.
-use borrow.Author.Rules.{rules}
 use Rattle.loadsteps.proofs.steps.role_of.Goals as goal
 
 pub returns-in-Data : goal.returns-in-Data

@@ -1,5 +1,4 @@
 -- `step` meets its contract: its calls are the parts of `moved`, and as the byte is not data, `stored` stays.
-use borrow.Author.Rules.{rules}
 use native.Mathlib.Omega.{arith}
 use mathlib.Core.Path.{◌≡◌}
 use Rattle.loadsteps.specs.Step.{next, moved, up, capped}

@@ -1,5 +1,4 @@
 -- `up_by` meets its contract: its test asks whether the sum is above the largest value.
-use borrow.Author.Rules.{rules}
 use native.Mathlib.Omega.{arith}
 use Rattle.loadsteps.specs.Step.{up, capped}
 use Rattle.loadsteps.proofs.steps.up_by.Goals as goal

@@ -1,5 +1,4 @@
 -- `is_legal_name` meets its contract: the words spell a text just where none is above 63,999 (laws `refused-name`, `spelled-name`).
-use borrow.Author.Rules.{rules}
 use mathlib.Core.Path.{◌∙◌}
 use Rattle.names.proofs.Names.{refused-name, spelled-name}
 use Rattle.names.proofs.radix.is_legal_name.Goals as goal

@@ -1,9 +1,8 @@
 -- `is_legal_text` meets its contract: its four tests are the four parts of `legal_text`, in order; with nine bytes the part from
 -- 6 to 9 is all that follows byte 6.
-use borrow.Author.Rules.{rules}
 use mathlib.Core.Path.{◌≡◌, sym, ap, ◌∙◌}
 use mathlib.Core.Bool.{true}
-use borrow.Author.Tests.{eq-eqb, ne_eqb, not-true, not-false}
+use borrow.Author.Tests.{eq-eqb, ne_eqb}
 use lib.ListN.{length, get_or, take}
 use lib.Dec.{eqb}
 use Rattle.names.specs.Radix.{in_name, legal_text, padded}

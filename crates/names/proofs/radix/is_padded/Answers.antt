@@ -1,12 +1,9 @@
 -- `is_padded` meets its contract. The loop's invariant: reading on from here, in the state reached, answers what reading the
 -- whole answers. At the end nothing is left, and the state itself answers.
 use native.Mathlib.Omega.{arith}
-use mathlib.Core.Path.{◌≡◌, refl, sym, ◌∙◌}
+use mathlib.Core.Path.{refl, sym, ◌∙◌}
 use borrow.Author.Rules.{rules}
-use Prim.Native.Nat.{◌≤◌, ◌-◌}
-use lib.ListN.{length, drop}
-use Rattle.names.specs.Radix.{padded}
-use Rattle.names.proofs.Names.{run_in, run-next, run_end}
+use Rattle.names.proofs.Names.{run-next, run_end}
 use Rattle.names.proofs.radix.is_padded.Goals as goal
 
 pub loop-i-init : goal.loop-i-init

@@ -1,5 +1,4 @@
 -- `pack` meets its contract: three codes below 40 make a sum below 64,000, and each is the byte's code.
-use borrow.Author.Rules.{rules}
 use Rattle.names.specs.Radix.{packed}
 use Rattle.names.proofs.radix.pack.Goals as goal
 

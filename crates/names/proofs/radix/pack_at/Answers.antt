@@ -1,5 +1,4 @@
 -- `pack_at` meets its contract: a legal text has nine bytes, each of them a space, a letter or a digit.
-use borrow.Author.Rules.{rules}
 use native.Mathlib.Omega.{arith}
 use Rattle.names.specs.Radix.{packed_at}
 use Rattle.names.proofs.Names.{legal-parts, legal_in}

@@ -1,5 +1,4 @@
 -- `step` meets its contract: each arm and each test in it is one case of `field_step`.
-use borrow.Author.Rules.{rules}
 use mathlib.Core.Path.{sym, ◌∙◌}
 use borrow.Author.Tests.{eq-eqb, ne_eqb}
 use Rattle.names.proofs.radix.step.Goals as goal

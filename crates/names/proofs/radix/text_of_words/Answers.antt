@@ -1,5 +1,4 @@
 -- `text_of_words` meets its contract: a return for each word that is above 63,999, and one with the nine bytes shown.
-use borrow.Author.Rules.{rules}
 use mathlib.Core.Path.{◌≡◌}
 use mathlib.Core.Bool.{true, ◌&&◌}
 use borrow.Author.Tests.{le-leb, lt-leb}

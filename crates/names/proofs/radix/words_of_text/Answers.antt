@@ -2,7 +2,6 @@
 use borrow.Author.Rules.{rules}
 use mathlib.Core.Path.{◌≡◌, sym, ◌∙◌}
 use mathlib.Core.Bool.{true}
-use borrow.Author.Tests.{not-true, not-false}
 use Rattle.names.specs.Radix.{legal_text, words_of_text}
 use Rattle.names.proofs.radix.words_of_text.Goals.{Else-not-is_legal_text}
 use Rattle.names.proofs.radix.words_of_text.Goals as goal

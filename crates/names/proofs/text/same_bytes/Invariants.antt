@@ -1,11 +1,8 @@
 -- `same_bytes` meets its contract: the loop keeps that what is left of the two is the same exactly where the two are (laws of Same).
-use borrow.Author.Rules.{rules}
 use Prim.Native.Nat.{◌-◌, ◌≤◌}
-use mathlib.Core.Path.{◌≡◌, refl, sym, ◌∙◌}
-use native.Mathlib.Omega.{arith}
+use mathlib.Core.Path.{◌≡◌}
 use lib.ListN.{length, drop}
 use Rattle.names.specs.Text.{same_bytes}
-use Rattle.names.proofs.Same.{same_differ, same_agree, same_ended, same-lengths}
 use Rattle.names.proofs.text.same_bytes.Given as goal
 
 abbrev pub invariant-loop-i : goal.invariant-loop-i

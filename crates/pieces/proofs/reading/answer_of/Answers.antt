@@ -1,5 +1,4 @@
 -- `answer_of` meets its contract: each arm is a case of `answer_by`.
-use borrow.Author.Rules.{rules}
 use Rattle.loadsteps.specs.Run.{answer_now}
 use Rattle.pieces.proofs.reading.answer_of.Goals as goal
 

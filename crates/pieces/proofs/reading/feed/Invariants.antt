@@ -1,9 +1,7 @@
 -- `feed` meets its contract: each turn leaves what `Feeding` says of the rest of the piece (laws `feed_goes`, `feed_ends`, `feed_decided`).
-use borrow.Author.Rules.{rules}
-use native.Mathlib.Omega.{arith}
 use Prim.Native.Nat.{◌-◌}
 use lib.ListN.{length}
-use Rattle.pieces.proofs.Turns.{Feeding, feed_begins, feed_ready, feed_takes, feed_goes, feed_ends, feed_decided, is-undecided, is-decided}
+use Rattle.pieces.proofs.Turns.{Feeding}
 use Rattle.pieces.proofs.reading.feed.Given as goal
 
 abbrev pub invariant-loop-at : goal.invariant-loop-at

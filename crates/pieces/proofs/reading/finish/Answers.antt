@@ -1,5 +1,4 @@
 -- `finish` meets its contract: its test is that of `ended`.
-use borrow.Author.Rules.{rules}
 use Rattle.loadsteps.specs.Run.{ended}
 use Rattle.pieces.proofs.reading.finish.Goals as goal
 

@@ -1,5 +1,4 @@
 -- `open_block` meets its contract: a header is passed at once (law `header-passed`), and else one byte (law `one-passed`).
-use borrow.Author.Rules.{rules}
 use native.Mathlib.Omega.{arith}
 use Rattle.pieces.proofs.Turns.{positive, one-passed}
 use Rattle.pieces.proofs.Headers.{header-passed}

@@ -1,5 +1,4 @@
 -- `pass` meets its contract: one byte is passed (law `one-passed`), or what `open_block` passes.
-use borrow.Author.Rules.{rules}
 use Rattle.pieces.proofs.Turns.{one-passed}
 use Rattle.pieces.proofs.taking.pass.Goals as goal
 

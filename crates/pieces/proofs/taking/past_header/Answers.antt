@@ -1,5 +1,4 @@
 -- `past_header` meets its contract, field by field: the sum of sums modulo 256 is that of all bytes.
-use borrow.Author.Rules.{rules}
 use native.Mathlib.Omega.{arith}
 use Prim.Native.Nat.{◌+◌, ◌%◌}
 use mathlib.Core.Path.{◌≡◌}

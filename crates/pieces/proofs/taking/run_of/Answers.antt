@@ -1,5 +1,4 @@
 -- `run_of` meets its contract: where the address is above the size, the difference is 0, and so is the least.
-use borrow.Author.Rules.{rules}
 use native.Mathlib.Omega.{arith}
 use Rattle.pieces.specs.Turns.{run_length}
 use Rattle.pieces.proofs.taking.run_of.Goals as goal

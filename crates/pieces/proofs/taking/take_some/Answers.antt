@@ -1,6 +1,5 @@
 -- `take_some` meets its contract: bytes that are no data are passed, and data bytes with a place are stored in a row (laws `passed_took`, `one_took`,
 -- `run_took`).
-use borrow.Author.Rules.{rules}
 use native.Mathlib.Omega.{arith}
 use mathlib.Core.Path.{sym, ap, ◌∙◌}
 use Rattle.loadsteps.specs.Step.{is_data}

@@ -1,0 +1,114 @@
+// What the programs ask of the system, over std: a buffer filled from a reader, the arguments, a file by its name, and a line on standard error
+// that says what failed.
+#![tactic(auto)]
+
+ghost use Rattle.std.specs.Prelude.{◌≤◌, length, take, IfOk};
+ghost use Rattle.std.specs.Io.KnownBytes.{Consumes};
+
+use std::env::{Env, FillError};
+use std::fs::File;
+use std::io::{ErrorKind, Read};
+use std::rt::Files;
+use std::{fmt, io, str};
+
+// Room for a path of any length that the system takes.
+pub const PATH_MAX: usize = 4096;
+
+// The numbers of the system's errors for an argument that is missing, and for one that its buffer can't hold.
+const EINVAL: i32 = 22;
+
+const ENAMETOOLONG: i32 = 36;
+
+// One step of `read_full`: how many bytes a read put at the start of buf, 0 where it failed.
+fn read_some<R: Read>(reader: &mut R, buf: &mut [u8]) -> usize
+    ensures in_bounds { result ≤ length buf.new }
+    ensures bytes { Consumes (R.remaining reader.old) (R.remaining reader.new) (take result buf.new) }
+{
+    match reader.read(buf) {
+        Ok(n) => n,
+        Err(_) => 0,
+    }
+}
+
+// Reads until buf is full, the input ends or a read fails, and returns how many bytes it put at the start of buf.
+pub fn read_full<R: Read>(reader: &mut R, buf: &mut [u8]) -> usize
+    ensures in_bounds { result ≤ length buf.new }
+    ensures bytes { Consumes (R.remaining reader.old) (R.remaining reader.new) (take result buf.new) }
+{
+    let mut done = 0;
+    while done < buf.len() {
+        let n = read_some(reader, &mut buf[done..]);
+        if n == 0 {
+            break;
+        }
+        done += n;
+    }
+    done
+}
+
+fn is_missing(rt: &impl Env, i: usize) -> bool {
+    let mut room = [0u8; 1];
+    matches!(rt.arg(i, &mut room), Err(FillError::NotPresent))
+}
+
+// How many arguments there are. The program's own name is the first.
+pub fn arg_count(rt: &impl Env) -> usize {
+    for i in 0..usize::MAX {
+        if is_missing(rt, i) {
+            return i;
+        }
+    }
+    usize::MAX
+}
+
+// Puts argument i at the start of buf and returns its length.
+pub fn arg(rt: &impl Env, i: usize, buf: &mut [u8]) -> io::Result<usize>
+    ensures { IfOk result (λ n. n ≤ length buf.new) }
+{
+    match rt.arg(i, buf) {
+        Ok(n) => Ok(n),
+        Err(FillError::NotPresent) => Err(io::Error::from_raw_os_error(EINVAL)),
+        Err(FillError::TooLong) => Err(io::Error::from_raw_os_error(ENAMETOOLONG)),
+    }
+}
+
+// Opens the file for reading. A name that is not UTF-8 is refused, since std opens no such file.
+pub fn open_read<R: Files>(rt: &R, path: &[u8]) -> io::Result<R::File> {
+    match str::from_utf8(path) {
+        Ok(name) => File::open(rt, name),
+        Err(_) => Err(io::Error::new(ErrorKind::InvalidInput, "the name is not UTF-8")),
+    }
+}
+
+// Bytes as text, with a sign in place of what is not UTF-8.
+#[derive(Drop)]
+struct Shown<'a>(&'a [u8]);
+
+impl fmt::Display for Shown<'_> {
+    fn fmt<W: fmt::Write>(&self, f: &mut fmt::Formatter<W>) -> fmt::Result {
+        for chunk in self.0.utf8_chunks() {
+            f.write_str(chunk.valid())?;
+            if !chunk.invalid().is_empty() {
+                f.write_str("\u{FFFD}")?;
+            }
+        }
+        Ok(())
+    }
+}
+
+// Writes a line to standard error: what failed, as the caller names it, a colon and why. Where standard error takes nothing, nobody can be told.
+pub fn complain<D: fmt::Display + Drop>(rt: &impl Eprint, what: &[u8], why: D) {
+    let _ = eprintln!(rt; "{}: {why}", Shown(what));
+}
+
+// Complains with the error's text, less the number that std puts behind the text of an error of the system.
+pub fn fail<R: Eprint + Alloc>(rt: &R, what: &[u8], error: io::Error) {
+    let Ok(text) = format!(in rt.alloc(); "{error}") else {
+        complain(rt, what, error);
+        return;
+    };
+    match text.split_once(" (os error ") {
+        Some((reason, _)) => complain(rt, what, reason),
+        None => complain(rt, what, text),
+    }
+}
