@@ -1,6 +1,5 @@
 -- `known` meets its contract: each request that is looked at is one of the eight that there is room for, and the run ends or stands where it stood.
-use native.Mathlib.Omega.{arith}
-use mathlib.Core.Path.{refl}
+use Rattle.std.proofs.Common.{arith, refl}
 use Rattle.cases.proofs.Follow.{ended_follows}
 use Rattle.batchcases.proofs.known.Goals as goal
 

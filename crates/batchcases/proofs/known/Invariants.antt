@@ -1,5 +1,5 @@
 -- `known` meets its contract: each request that is looked at is one of the eight that there is room for, and the run ends or stands where it stood.
-use Prim.Native.Nat.{◌≤◌, ◌-◌}
+use Rattle.std.proofs.Common.{◌≤◌, ◌-◌}
 use Rattle.batchcases.proofs.known.Given as goal
 
 abbrev pub invariant-loop-i : goal.invariant-loop-i

@@ -1,6 +1,5 @@
 -- `write_answers` meets its contract: each answer that is written is one of the eight, and its line follows on what went on (law `goes_further`).
-use native.Mathlib.Omega.{arith}
-use mathlib.Core.Path.{refl}
+use Rattle.std.proofs.Common.{arith, refl}
 use Rattle.std.proofs.lemmas.Bool.{not-false}
 use Rattle.cases.proofs.Follow.{goes_further}
 use Rattle.batchcases.proofs.write_answers.Goals as goal

@@ -1,5 +1,5 @@
 -- `write_answers` meets its contract: each answer that is written is one of the eight, and its line follows on what went on (law `goes_further`).
-use Prim.Native.Nat.{◌≤◌, ◌-◌}
+use Rattle.std.proofs.Common.{◌≤◌, ◌-◌}
 use Rattle.cases.specs.Runs.{Follows}
 use Rattle.batchcases.proofs.write_answers.Given as goal
 

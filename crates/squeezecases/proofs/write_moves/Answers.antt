@@ -1,6 +1,5 @@
 -- `write_moves` meets its contract: each move that is written stands in the list, and its line follows on what went on (law `goes_further`).
-use native.Mathlib.Omega.{arith}
-use mathlib.Core.Path.{refl}
+use Rattle.std.proofs.Common.{arith, refl}
 use Rattle.std.proofs.lemmas.Bool.{not-false}
 use Rattle.cases.proofs.Follow.{goes_further}
 use Rattle.squeezecases.proofs.write_moves.Goals as goal

@@ -1,6 +1,5 @@
 -- `write_moves` meets its contract: each move that is written stands in the list, and its line follows on what went on (law `goes_further`).
-use Prim.Native.Nat.{◌+◌, ◌*◌, ◌≤◌}
-use lib.ListN.{length}
+use Rattle.std.proofs.Common.{◌+◌, ◌*◌, ◌≤◌, length}
 use Rattle.cases.specs.Runs.{Follows}
 use Rattle.squeezecases.proofs.write_moves.Given as goal
 

@@ -1,6 +1,6 @@
 -- `is_request` meets its contract: the second test decides where the first holds.
 use Rattle.std.proofs.Common.{le-leb}
-use borrow.Author.Tests.{lt-leb}
+use Rattle.std.proofs.lemmas.Bool.{lt-leb}
 use Rattle.cases.specs.Records.{is_request}
 use Rattle.cases.proofs.input.is_request.Goals as goal
 
