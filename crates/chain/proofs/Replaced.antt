@@ -6,7 +6,6 @@ use mathlib.Core.Path.{◌≡◌, sym, ap, ◌∙◌}
 use mathlib.Core.List.{List, append_assoc}
 use lib.ListN.{take, drop}
 use borrow.Rule.Slice.PartMut.{put_mid, post_of, Post-is}
-use Rattle.meaning.specs.Words.{segment}
 use Rattle.meaning.specs.Enter.{with_segment}
 use Rattle.walks.proofs.Words.{base}
 

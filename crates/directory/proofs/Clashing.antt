@@ -11,7 +11,6 @@ use lib.ListN.{get_or, take, drop}
 use Rattle.bools.proofs.Bools.{both, never}
 use Rattle.meaning.specs.declared.Kind.{Kind}
 use Rattle.meaning.specs.declared.Kind.TheVariants.{Tentative, Empty, Permanent, End, Unknown}
-use Rattle.meaning.specs.declared.Name.{Name}
 use Rattle.meaning.specs.declared.Key.{Key}
 use Rattle.meaning.specs.declared.Key.TheVariants.{File, Open}
 use Rattle.meaning.specs.Kinds.{kind_of, is_tentative, is_permanent}

@@ -1,14 +1,12 @@
 -- Files as numbers. A place is below 16,384, so that first block and place come back from the number that is made of them; and the first seven
 -- words at a place are those of the slot that stands there, which say all that a file keeps. Assumes nothing.
 use Prim.Native.Nat.{ℕ, ◌+◌, ◌*◌, ◌≤◌, ◌<◌}
-use mathlib.Core.Path.{◌≡◌, refl, ap, ◌∙◌}
+use mathlib.Core.Path.{◌≡◌}
 use mathlib.Core.List.{List}
 use native.Mathlib.Omega.{arith}
-use lib.ListN.{length, get_or, take, drop}
+use lib.ListN.{length, take, drop}
 use lib.Seq.{get_or-take}
-use Rattle.meaning.specs.Words.{Entry}
-use Rattle.walks.proofs.Words.{word, word0}
-use Rattle.repaired.specs.Kept.{KeptFile, kept_at}
+use Rattle.repaired.specs.Kept.{kept_at}
 use Rattle.keeping.specs.Tables.{first_in, place_in, file_of, Within}
 
 abbrev pub number_of : ℕ → ℕ → ℕ

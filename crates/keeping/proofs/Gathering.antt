@@ -3,7 +3,7 @@
 use Prim.Native.Nat.{ℕ, zero, suc, ◌+◌, ◌*◌, ◌-◌, ◌≤◌, ◌<◌}
 use mathlib.Core.Path.{◌≡◌, refl, sym, ap, ◌∙◌}
 use mathlib.Core.Bool.{true}
-use mathlib.Core.List.{List, [], ◌∷◌, ◌++◌, map, append_assoc, append-nil}
+use mathlib.Core.List.{List, ◌∷◌, ◌++◌, map, append_assoc, append-nil}
 use native.Mathlib.Nat.{suc-mul}
 use native.Mathlib.Omega.{arith}
 use lib.ListN.{length, get_or, take, drop}
@@ -16,7 +16,7 @@ use Rattle.walks.proofs.Lists.{chain-over}
 use Rattle.segment.proofs.Ahead.{first-room}
 use Rattle.chain.specs.Chained.{Chained}
 use Rattle.chain.proofs.Links.{link_at, Next, next, chain_next}
-use Rattle.repaired.specs.Kept.{KeptFile, legible, kept_from, kept_in, kept_of, kept_files}
+use Rattle.repaired.specs.Kept.{kept_in, kept_of, kept_files}
 use Rattle.keeping.specs.Tables.{file_of, Within, Listed}
 use Rattle.keeping.proofs.Listing.{files_ahead}
 

@@ -1,11 +1,11 @@
 -- The files of a segment's slots, listed. Left slots are ahead, from word p on, the first at block b: the files that the table has, and those that
 -- are ahead, are together all. A slot that stops the walk has none ahead; any other adds its own, or nothing, to the table. Assumes nothing.
 use Prim.Native.Nat.{ℕ, zero, suc, ◌+◌, ◌*◌, ◌-◌, ◌≤◌, ◌<◌}
-use mathlib.Core.Path.{◌≡◌, refl, sym, ap, ◌∙◌}
+use mathlib.Core.Path.{◌≡◌, refl, sym, ◌∙◌}
 use mathlib.Core.Bool.{Bool, true, false, cond, ◌||◌}
 use mathlib.Core.List.{List, [], ◌∷◌, ◌++◌, map, map-append, append_assoc, append-nil}
 use native.Mathlib.Omega.{arith}
-use lib.ListN.{length, get_or, take, drop, set, length-set}
+use lib.ListN.{length, get_or, take, drop, length-set}
 use lib.Seq.{drop-drop, take-suc-set}
 use Rattle.meaning.specs.Kinds.{kind_of, is_end, is_unknown, is_permanent}
 use Rattle.meaning.specs.Words.{Entry, kind, blocks, slot_count, chunks}

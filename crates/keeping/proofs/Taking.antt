@@ -1,7 +1,7 @@
 -- A file taken out of a table, and then all of them. While none is found the numbers move up by one: what stands before place i, the number that was
 -- there, and what is left behind it with the first alike taken out, are the same at each turn. So a file taken out of the table is taken out of the
 -- list; and two lists of unequal length never hold the same files. Assumes nothing.
-use Prim.Native.Nat.{ℕ, zero, suc, ◌+◌, ◌-◌, ◌≤◌, ◌<◌}
+use Prim.Native.Nat.{ℕ, suc, ◌+◌, ◌-◌, ◌≤◌, ◌<◌}
 use mathlib.Core.Path.{◌≡◌, refl, sym, ap, ◌∙◌}
 use mathlib.Core.Bool.{Bool, true, false, cond, ◌&&◌, ◌||◌, true≢false}
 use mathlib.Core.List.{List, [], ◌∷◌, ◌++◌, map, append_assoc}

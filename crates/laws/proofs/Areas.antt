@@ -17,7 +17,6 @@ use Rattle.meaning.specs.Sound.{any}
 use Rattle.meaning.specs.Enter.{is_area, Area, cost_after, has_room, areas_in, areas, eligibles, first_fit}
 use Rattle.walks.specs.Lists.{All}
 use Rattle.walks.proofs.Alls.{all_map, all_append}
-use Rattle.rules.proofs.Soundness.{Sound}
 use Rattle.rules.proofs.Fine.{flag}
 use Rattle.walks.proofs.Told.{empty-kind}
 use Rattle.walks.proofs.Linked.{Used}

@@ -3,7 +3,7 @@
 -- which nothing was open, finds it from the block that the answer says; it stands in the answer's segment and slot.
 use Prim.Native.Nat.{ℕ, ◌-◌, ◌≤◌}
 use mathlib.Core.Path.{◌≡◌, refl, sym, ap, ◌∙◌, subst}
-use mathlib.Core.Bool.{Bool, true, false}
+use mathlib.Core.Bool.{true, false}
 use mathlib.Core.List.{List, map}
 use mathlib.Core.Option
 use mathlib.Core.Option.{Option, none, some, none-ne-some}

@@ -9,16 +9,15 @@ use mathlib.Core.Bool.{Bool, true, false, cond, true≢false}
 use mathlib.Core.List.{List, [], ◌∷◌, map}
 use mathlib.Core.Option.{Option, none, some, none-ne-some}
 use lib.ListN.{length, get_or}
-use lib.Dec.{eqb}
 use borrow.Author.Tests.{eqb-true}
 use Rattle.meaning.specs.declared.Name.{Name}
 use Rattle.meaning.specs.declared.Key.{Key}
 use Rattle.meaning.specs.declared.Key.TheVariants.{File, Open}
 use Rattle.meaning.specs.Kinds.{permanent_status, protected_status, kind_of}
-use Rattle.meaning.specs.Words.{Entry, status_word, kind, name_of, protected, Row, rows}
+use Rattle.meaning.specs.Words.{Entry, status_word, name_of, protected, Row, rows}
 use Rattle.meaning.specs.Keys.{holds, file_bad, spared, once}
 use Rattle.meaning.specs.Sound.{fault}
-use Rattle.meaning.specs.Answers.{is_protected, find, file_of, Write, write}
+use Rattle.meaning.specs.Answers.{is_protected, file_of, Write, write}
 use Rattle.meaning.specs.Requests.{legal, lookup, word_of, over_protected, closing}
 use Rattle.laws.specs.Kept.{Present, AllStay, SameFile}
 use Rattle.laws.specs.Order.{every}

@@ -6,12 +6,10 @@ use mathlib.Core.Path.{◌≡◌, refl, sym, ap, ◌∙◌}
 use mathlib.Core.Logic.{inl, inr}
 use mathlib.Core.Bool.{Bool, true, false, cond}
 use mathlib.Core.List.{List, [], ◌∷◌, map}
-use Rattle.meaning.specs.declared.Name.{Name}
 use Rattle.meaning.specs.declared.Key.{Key}
 use Rattle.meaning.specs.declared.Key.TheVariants.{File}
 use Rattle.meaning.specs.Words.{slot_words, Entry, Row, rows}
 use Rattle.meaning.specs.Keys.{holds, file_bad, once}
-use Rattle.meaning.specs.Answers.{Write, write}
 use Rattle.laws.specs.Kept.{AllStay, BadStays}
 use Rattle.laws.specs.Order.{every}
 use Rattle.walks.specs.Lists.{All}
@@ -21,7 +19,6 @@ use Rattle.rules.proofs.Soundness.{Sound}
 use Rattle.rules.proofs.Rows.{Stand, standing}
 use Rattle.rules.proofs.Touch.{live_still, spare, shifted}
 use Rattle.laws.proofs.Move.{Move, rows-moved}
-use Rattle.laws.proofs.Good.{Good}
 use Rattle.laws.proofs.Living.{Live, face}
 
 -- one more among the rows where they stay; rows that are the same but for their slots

@@ -16,7 +16,6 @@ use Rattle.walks.proofs.Unbroken.{unbroken}
 use Rattle.lines.specs.Wrote.{Wrote, WroteAtMost}
 use Rattle.lines.specs.Pieces.{head_by, total_by}
 use Rattle.rows.specs.Rows.{TotalsOf}
-use Rattle.listing.specs.Listed.{Listed}
 use Rattle.rows.specs.declared.Totals.{Totals}
 use Rattle.lines.proofs.Writes.{both}
 use Rattle.lines.proofs.Parts.{head_by_lem, total_by_lem}

@@ -1,20 +1,19 @@
 -- Test and tool by their tests: damage that is beyond repair has its number; else rules 1 to 3 hold, so that the chain can be walked, and a proposal
 -- passes by its length, its fault and its files.
 use Prim.Native.Nat.{ℕ, ◌+◌, ◌≤◌, ◌<◌}
-use mathlib.Core.Path.{◌≡◌, refl, sym, ap, ◌∙◌}
-use mathlib.Core.Bool.{Bool, true, false, cond, ◌&&◌, ◌||◌}
+use mathlib.Core.Path.{◌≡◌, refl, ap, ◌∙◌}
+use mathlib.Core.Bool.{Bool, true, false, ◌||◌}
 use mathlib.Core.List.{List, [], ◌∷◌, map, append-nil}
 use native.Mathlib.Omega.{arith}
-use lib.ListN.{length, take, drop, drop_of_length-le}
+use lib.ListN.{length, drop_of_length-le}
 use lib.Seq.{paste, take-length}
-use lib.Dec.{eqb, leb}
+use lib.Dec.{leb}
 use borrow.Author.Tests.{eq-eqb, ne_eqb, le-leb, lt-leb}
 use Rattle.meaning.specs.Words.{first_data, chain}
 use Rattle.meaning.specs.Sound.{fault}
 use Rattle.walks.proofs.Heads.{sized}
-use Rattle.chain.specs.Chained.{Chained}
 use Rattle.chain.proofs.Chains.{chained}
-use Rattle.repaired.specs.Kept.{KeptFile, kept_files, same_files, beyond, passes, accepts}
+use Rattle.repaired.specs.Kept.{kept_files, same_files, beyond, passes, accepts}
 use Rattle.repaired.specs.Tool.{firsts_of, sorted, mended, proposal, repair}
 use Rattle.repaired.proofs.Damage.{first_three}
 use Rattle.keeping.specs.Tables.{first_in, file_of}

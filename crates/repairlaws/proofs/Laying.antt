@@ -2,16 +2,15 @@
 -- never above the first block of the next file there: so at a file both are the same, and an empty entry takes what is left to that block. All
 -- files get the blocks of the other version, and the tool's slots are readable too.
 use Prim.Native.Nat.{ℕ, ◌+◌, ◌-◌, ◌≤◌, min}
-use mathlib.Core.Path.{◌≡◌, refl, sym, ap, ◌∙◌}
+use mathlib.Core.Path.{◌≡◌, refl, sym, ◌∙◌}
 use mathlib.Core.Logic.{◌⊎◌, inl, inr}
 use mathlib.Core.Bool.{Bool, true, false, cond, ◌||◌, true≢false, or-true}
 use mathlib.Core.List.{List, [], ◌∷◌, ◌++◌}
 use native.Mathlib.Omega.{arith}
 use native.Mathlib.Nat.{add-zero, zero-add}
-use lib.ListN.{length, get_or, drop, set, length-set}
+use lib.ListN.{length, drop, set, length-set}
 use lib.Seq.{get_or-set_same, get_or-set_other, drop-drop}
 use Rattle.bools.proofs.Bools.{neither}
-use Rattle.meaning.specs.declared.Kind.{Kind}
 use Rattle.meaning.specs.declared.Kind.TheVariants.{Tentative, Empty, Permanent, End, Unknown}
 use Rattle.meaning.specs.Kinds.{empty_status, end_status, kind_of, is_tentative, is_permanent, is_end, is_unknown}
 use Rattle.meaning.specs.Words.{Entry, kind, blocks, upto, total}

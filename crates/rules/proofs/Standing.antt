@@ -7,7 +7,7 @@ use mathlib.Core.Path.{◌≡◌, refl, sym, ap, ap₂, ◌∙◌}
 use mathlib.Core.List.{List, [], ◌∷◌, ◌++◌, append_assoc}
 use lib.ListN.{length, get_or, take, length-append}
 use lib.Seq.{take-append_seam, get_or-append_seam}
-use Rattle.meaning.specs.Words.{segment, first_of, slot_words, Entry, blocks, slots, entries, total, chain, Row, rows_in, segment_rows, rows_of}
+use Rattle.meaning.specs.Words.{segment, first_of, slot_words, Entry, blocks, entries, total, chain, Row, rows_in, segment_rows, rows_of}
 use Rattle.meaning.specs.Words.{rows}
 use Rattle.walks.specs.Lists.{All}
 use Rattle.walks.proofs.Alls.{all_append}

@@ -1,21 +1,19 @@
 -- The walk of squeeze over entries, one step: past an entry that is no file, or over a file, with what is left over before it. And what is left
 -- over: nothing, or one empty entry of just those blocks.
 use Prim.Native.Nat.{ℕ, ◌+◌, ◌-◌, ◌≤◌, ◌<◌}
-use mathlib.Core.Path.{◌≡◌, refl, ap}
+use mathlib.Core.Path.{◌≡◌, refl}
 use mathlib.Core.Logic.{◌⊎◌, inl, inr}
 use mathlib.Core.Bool.{Bool, true, false, cond}
 use mathlib.Core.List.{List, [], ◌∷◌, ◌++◌}
 use native.Mathlib.Omega.{arith}
-use lib.ListN.{length, replicate, length-replicate}
+use lib.ListN.{length, length-replicate}
 use lib.Dec.{eqb}
 use borrow.Author.Tests.{eqb-true, eqb-false}
-use Rattle.meaning.specs.declared.Kind.{Kind}
 use Rattle.meaning.specs.declared.Kind.TheVariants.{Empty, Permanent}
 use Rattle.meaning.specs.Kinds.{kind_of}
 use Rattle.meaning.specs.Words.{Entry, kind, blocks}
 use Rattle.meaning.specs.Requests.{entry_of, empty_entry}
 use Rattle.walks.proofs.Told.{permanent-kind}
-use Rattle.squeezed.specs.Moves.{Move}
 use Rattle.squeezed.specs.Squeeze.{is_file, is_bad, new_place, free_after, free_up_to, places, left_over, packed_entries}
 
 pub sure : (x : Bool) → (x ≡ true) ⊎ (x ≡ false)

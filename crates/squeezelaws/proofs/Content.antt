@@ -1,7 +1,7 @@
 -- Content intact. The places of all files are packed moves of a volume of V blocks, so done in list order they bring every file's blocks to its new
 -- place; and that place is where the new directory says. FILE.BAD is among them, with a move that changes nothing.
 use Prim.Native.Nat.{ℕ, zero, suc}
-use mathlib.Core.Path.{◌≡◌, refl, sym, ap, ◌∙◌}
+use mathlib.Core.Path.{◌≡◌, refl, sym, ◌∙◌}
 use mathlib.Core.Bool.{Bool, true, false}
 use mathlib.Core.List.{List, [], ◌∷◌}
 use native.Mathlib.Omega.{arith}

@@ -1,17 +1,16 @@
 -- What squeeze keeps. The free blocks: where no entry is tentative, the data blocks are those of files and free ones; both directories have as many
 -- data blocks, and as many of files. The rest stands in NewWay (soundness) and Twice (a second squeeze).
 use Prim.Native.Nat.{ℕ, ◌+◌, ◌≤◌}
-use mathlib.Core.Path.{◌≡◌, refl, ap}
+use mathlib.Core.Path.{◌≡◌, refl}
 use mathlib.Core.Logic.{inl, inr}
 use mathlib.Core.Bool.{Bool, true, false, cond, true≢false}
 use mathlib.Core.List.{List, [], ◌∷◌, ◌++◌}
 use native.Mathlib.Omega.{arith}
 use Rattle.bools.proofs.Bools.{neither}
 use Rattle.meaning.specs.declared.Kind.{Kind}
-use Rattle.meaning.specs.declared.Kind.TheVariants.{Tentative, Empty}
 use Rattle.meaning.specs.Kinds.{is_tentative, is_empty, is_permanent}
-use Rattle.meaning.specs.Words.{first_data, slot_words, Entry, kind, blocks, slots, entries, total, chain, entries_of, all_entries}
-use Rattle.meaning.specs.Sound.{any, fault}
+use Rattle.meaning.specs.Words.{first_data, slot_words, Entry, kind, blocks, entries, total, chain, entries_of, all_entries}
+use Rattle.meaning.specs.Sound.{any}
 use Rattle.meaning.specs.Listing.{blocks_of}
 use Rattle.walks.specs.Lists.{All}
 use Rattle.walks.proofs.Filled.{total-append}

@@ -3,17 +3,16 @@
 use Prim.Native.Nat.{ℕ, ◌+◌, ◌-◌, ◌≤◌, ◌<◌}
 use mathlib.Core.Path.{◌≡◌, refl, sym, ap, ◌∙◌}
 use mathlib.Core.Logic.{◌≢◌}
-use mathlib.Core.Bool.{Bool, false}
+use mathlib.Core.Bool.{false}
 use mathlib.Core.List.{List, [], ◌∷◌, ◌++◌}
 use native.Mathlib.Nat.{add-zero}
 use native.Mathlib.Omega.{arith}
 use lib.ListN.{length, get_or, set, length-set}
 use lib.Seq.{get_or-set_same, get_or-set_other}
-use lib.Dec.{ltb}
 use borrow.Author.Tests.{ltb-false}
 use Rattle.bools.proofs.Bools.{neither}
 use Rattle.meaning.specs.declared.Key.{Key}
-use Rattle.meaning.specs.Words.{segments, first_data, segment, total_of, link_of, extra_bytes_of, highest, slot_words, capacity, Entry}
+use Rattle.meaning.specs.Words.{first_data, segment, total_of, link_of, extra_bytes_of, highest, slot_words, capacity, Entry}
 use Rattle.meaning.specs.Words.{entries, total, chain, all_entries}
 use Rattle.meaning.specs.Keys.{holds}
 use Rattle.meaning.specs.Sound.{any, bad1}
@@ -32,7 +31,7 @@ use Rattle.rules.proofs.Fine.{free, Fine}
 use Rattle.laws.proofs.Rendered.{body, Written, written}
 use Rattle.laws.proofs.Way.{shape_of, entries_in, spread, Stop, Way, all-spread, sound-way, way-blocks, way-chain, way-sound}
 use Rattle.laws.proofs.Rewritten.{used-within}
-use Rattle.squeezed.specs.Squeeze.{free_up_to, left_over, packed_entries, last_over, Part, parts, new_parts, rewritten, squeezed, overfull}
+use Rattle.squeezed.specs.Squeeze.{free_up_to, left_over, packed_entries, last_over, parts, new_parts, squeezed, overfull}
 use Rattle.squeezed.proofs.Steps.{Gap, over}
 use Rattle.squeezed.proofs.Along.{free-bounds}
 use Rattle.squeezelaws.proofs.Packing.{over-total, packed-total, packed-wide, packed-fine, packed-count}

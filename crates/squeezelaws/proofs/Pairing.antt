@@ -1,15 +1,14 @@
 -- Each file's row before and after. In a segment the walk meets the old entries and the new ones side by side: past what is left over, the next
 -- new entry is the next file, and its first block is where the walk places it. Segments follow each other along the chain.
 use Prim.Native.Nat.{ℕ, ◌+◌, ◌*◌, ◌-◌, ◌≤◌}
-use mathlib.Core.Path.{◌≡◌, refl, ap}
+use mathlib.Core.Path.{◌≡◌, refl}
 use mathlib.Core.Bool.{Bool, true, false, cond}
 use mathlib.Core.List.{List, [], ◌∷◌, ◌++◌}
 use native.Mathlib.Omega.{arith}
 use lib.ListN.{length}
-use Rattle.meaning.specs.Words.{segment, extra_bytes_of, slot_words, Entry, blocks, entries, total, Row, rows_in, segment_rows, rows_of}
+use Rattle.meaning.specs.Words.{extra_bytes_of, slot_words, Entry, blocks, entries, total, Row, rows_in, segment_rows, rows_of}
 use Rattle.walks.specs.Lists.{All}
 use Rattle.walks.proofs.Alls.{all_left, all_right_lem}
-use Rattle.rules.proofs.Soundness.{Sound}
 use Rattle.laws.proofs.Way.{entries_in, spread}
 use Rattle.squeezed.specs.Moves.{Move}
 use Rattle.squeezed.specs.Squeeze.{is_file, is_bad, new_place, free_up_to, places, left_over, packed_entries}

@@ -1,7 +1,7 @@
 -- Segments written anew one after the other, no two the same. What is written later leaves a segment as it is, and before its turn it still has
 -- its old header; so in the end each is what was made from its own header, and all others are as they were.
 use Prim.Native.Nat.{ℕ, ◌≤◌}
-use mathlib.Core.Path.{◌≡◌, refl, sym, ap, ◌∙◌}
+use mathlib.Core.Path.{◌≡◌, refl, sym, ◌∙◌}
 use mathlib.Core.Logic.{◌≢◌}
 use mathlib.Core.List.{List, [], ◌∷◌, map}
 use lib.ListN.{length, set}

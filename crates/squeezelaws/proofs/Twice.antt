@@ -2,17 +2,16 @@
 -- segments are written as they stand, and the words stay.
 use Prim.Native.Nat.{ℕ, ◌+◌, ◌-◌, ◌≤◌}
 use mathlib.Core.Path.{◌≡◌, refl, sym, ap, ◌∙◌}
-use mathlib.Core.Bool.{Bool, false, cond}
+use mathlib.Core.Bool.{Bool, false}
 use mathlib.Core.List.{List, [], ◌∷◌, ◌++◌, append-nil}
 use native.Mathlib.Nat.{add-zero}
 use native.Mathlib.Omega.{arith}
 use lib.ListN.{length, take, set, replicate, length-set}
 use lib.Seq.{take-take, take_at, set-set}
-use lib.Dec.{ltb}
 use borrow.Author.Tests.{le-ltb}
 use Rattle.meaning.specs.Kinds.{end_status, is_tentative}
 use Rattle.meaning.specs.Words.{first_data, segment, extra_bytes_of, slot_words, capacity, Entry, kind, entries, total, chain}
-use Rattle.meaning.specs.Sound.{any, fault}
+use Rattle.meaning.specs.Sound.{any}
 use Rattle.meaning.specs.Requests.{flat, render}
 use Rattle.meaning.specs.Enter.{header_of}
 use Rattle.walks.specs.Lists.{All}
@@ -21,7 +20,7 @@ use Rattle.walks.proofs.Words.{header-length, with_self}
 use Rattle.rules.proofs.Soundness.{Sound, chain-within, faultless}
 use Rattle.laws.proofs.Way.{entries_in, spread}
 use Rattle.laws.proofs.Room.{any_append}
-use Rattle.squeezed.specs.Moves.{Move, idle, needed}
+use Rattle.squeezed.specs.Moves.{needed}
 use Rattle.squeezed.specs.Squeeze.{new_place, free_up_to, places, moves, packed_entries, Part, parts, new_parts, rewritten, squeezed}
 use Rattle.squeezed.specs.Squeeze.{has_tentative, too_short, squeeze_number, move_words, squeeze}
 use Rattle.squeezed.proofs.Steps.{file-kind, empty-file, free-past, places-past, packed-past, over}

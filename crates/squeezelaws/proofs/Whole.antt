@@ -1,7 +1,7 @@
 -- A volume with no FILE.BAD, squeezed. Before a file nothing is left over, so every entry is a file but for what is left over last, in the chain's
 -- last segment; and as there are as many free blocks as before, it has all of them. It is a run by itself, since a file stands before it or
 -- nothing; so enter's law on room finds it long enough.
-use Prim.Native.Nat.{ℕ, zero, suc, ◌+◌, ◌-◌, ◌≤◌, ◌<◌}
+use Prim.Native.Nat.{ℕ, suc, ◌+◌, ◌-◌, ◌≤◌, ◌<◌}
 use mathlib.Core.Path.{◌≡◌, refl, sym, ap, ◌∙◌}
 use mathlib.Core.Bool.{Bool, true, false, cond}
 use mathlib.Core.List.{List, [], ◌∷◌, ◌++◌, append_assoc, append-nil}
@@ -9,7 +9,7 @@ use native.Mathlib.Nat.{add-zero}
 use native.Mathlib.Omega.{arith}
 use lib.IntN.{ℤ, pos, negsuc}
 use lib.ListN.{length, get_or}
-use lib.Dec.{eqb, leb}
+use lib.Dec.{leb}
 use borrow.Author.Tests.{ne_eqb}
 use Rattle.meaning.specs.Kinds.{is_empty}
 use Rattle.meaning.specs.Words.{first_data, highest, slot_words, Entry, kind, blocks, entries, total, chain, all_entries}
@@ -21,13 +21,13 @@ use Rattle.walks.proofs.Lists.{chain-at}
 use Rattle.walks.proofs.Alls.{all_left, all_right_lem, all_append}
 use Rattle.rules.specs.Sound.{visit}
 use Rattle.rules.proofs.Fine.{flag}
-use Rattle.rules.proofs.Soundness.{Sound, faultless}
+use Rattle.rules.proofs.Soundness.{faultless}
 use Rattle.laws.specs.Room.{LongRun}
 use Rattle.laws.proofs.Way.{entries_in, spread, all-spread}
 use Rattle.laws.proofs.Runs.{ends_area}
 use Rattle.laws.proofs.RunPlaces.{PlacedRun, piece-run}
 use Rattle.laws.proofs.EnterLaws.{enter_laws}
-use Rattle.squeezed.specs.Squeeze.{is_file, is_bad, new_place, free_up_to, left_over, packed_entries, squeezed, squeeze}
+use Rattle.squeezed.specs.Squeeze.{is_file, is_bad, new_place, free_up_to, left_over, packed_entries, squeezed}
 use Rattle.squeezed.proofs.Steps.{file-kind, Gap, over}
 use Rattle.squeezelaws.specs.Laws.{free_blocks, NoBad, NotEleven, OneArea, AllFree}
 use Rattle.squeezed.proofs.Walk.{walk}

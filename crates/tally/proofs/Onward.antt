@@ -1,7 +1,7 @@
 -- A walk along the chain of a sound directory, segment by segment, with the next free block. The way along the chain gives each segment what is
 -- presumed of it; its files take the next free block no further than the segment's end, where the next one stands.
 use Prim.Native.Nat.{ℕ, zero, suc, ◌+◌, ◌*◌, ◌-◌, ◌≤◌, ◌<◌}
-use mathlib.Core.Path.{◌≡◌, ap}
+use mathlib.Core.Path.{◌≡◌}
 use mathlib.Core.List.{List}
 use native.Mathlib.Omega.{arith}
 use lib.ListN.{length}

@@ -14,7 +14,7 @@ use Rattle.walks.proofs.Words.{header}
 use Rattle.walks.proofs.Lists.{chain-over}
 use Rattle.rules.proofs.Rule5.{rule1-holds, rule2-holds}
 use Rattle.rules.proofs.Soundness.{Sound}
-use Rattle.laws.proofs.Way.{entries_in, spread, Way, all-spread}
+use Rattle.laws.proofs.Way.{entries_in, spread, all-spread}
 use Rattle.chain.proofs.Links.{part-is, link_at, chain_next}
 use Rattle.chain.proofs.Replaced.{part_of}
 use Rattle.squeezed.specs.Moves.{needed}

@@ -1,5 +1,4 @@
 -- `run` meets its contract: a turn serves its request (`next`), and where none is left all are served (`ran`).
-use mathlib.Core.Path.{◌≡◌, sym, ◌∙◌}
 use Rattle.batch.proofs.Fold.{next, ran, refused}
 use Rattle.batch.proofs.run.Goals as goal
 

@@ -1,5 +1,4 @@
 -- `run_some` meets its contract: `run_part` was asked for at most eight, and of eight records that is the same first part.
-use borrow.Author.Rules.{rules}
 use mathlib.Core.Path.{◌≡◌}
 use lib.ListN.{length}
 use Rattle.batch.proofs.AtMost.{firsts, rests}

@@ -1,13 +1,8 @@
 -- `links_right` meets its contract. The loop's invariant: the walk from here, over the segments left, is right just where the whole
 -- walk is. Each return is one test of a turn that fails, and the measure is the segments left. Assumes nothing.
-use native.Mathlib.Omega.{arith}
-use mathlib.Core.Path.{◌≡◌, refl, sym, ◌∙◌}
-use borrow.Author.Tests.{le-leb, lt-leb, eq-eqb, ne_eqb}
-use Prim.Native.Nat.{◌+◌}
+use mathlib.Core.Path.{◌≡◌}
 use lib.ListN.{get_or}
 use Rattle.walks.specs.Links.{linked}
-use Rattle.chain.proofs.Links.{linked_step, linked-end}
-use Rattle.walks.proofs.Words.{base}
 use Rattle.chain.proofs.links_right.Given as goal
 
 abbrev pub invariant-loop-left : goal.invariant-loop-left

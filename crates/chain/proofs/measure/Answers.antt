@@ -3,14 +3,13 @@
 -- Assumes nothing.
 use native.Mathlib.Omega.{arith}
 use mathlib.Core.Path.{sym, ◌∙◌}
-use borrow.Author.Rules.{rules}
 use Prim.Native.Nat.{◌+◌}
 use lib.ListN.{length-take, length-drop}
 use Rattle.segment.specs.declared.scan.Scan.TheVariants.{Fault, Sum}
 use Rattle.segment.proofs.Scanning.{sum_bounded}
 use Rattle.chain.proofs.Links.{Next, next}
 use Rattle.walks.proofs.Words.{base}
-use Rattle.chain.proofs.Measuring.{Measuring, starts, turn, turned, scan_part}
+use Rattle.chain.proofs.Measuring.{starts, turn, turned, scan_part}
 use Rattle.chain.proofs.measure.Goals.{In-loop-left}
 use Rattle.chain.proofs.measure.Goals as goal
 

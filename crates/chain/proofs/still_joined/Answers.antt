@@ -1,5 +1,4 @@
 -- `still_joined` meets its contract: "and", by the cases of the first test. Assumes nothing.
-use borrow.Author.Rules.{rules}
 use Rattle.chain.proofs.still_joined.Goals as goal
 
 pub returns-then-joined : goal.returns-then-joined

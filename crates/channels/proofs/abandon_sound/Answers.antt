@@ -1,9 +1,7 @@
 -- `abandon_sound` meets its contract: the channel is tested, and then `restate_found` does the rest with the channel's key.
-use borrow.Author.Rules.{rules}
 use native.Mathlib.Omega.{arith}
 use mathlib.Core.Path.{◌≡◌, refl, sym, ◌∙◌}
 use mathlib.Core.Bool.{true}
-use borrow.Author.Tests.{not-true, not-false}
 use Rattle.meaning.specs.Answers.{refuse}
 use Rattle.meaning.specs.Requests.{good_channel}
 use Rattle.channels.proofs.Tested.{channel-fits, abandon-bad, abandon-good}

@@ -1,6 +1,5 @@
 -- `close_at` meets its contract. What the place's words, the next slot and the sum ask for is the law `ready`; the writes of both steps
 -- are those of the meaning (`closed-words`), unless what was found is protected (`over-protected`).
-use borrow.Author.Rules.{rules}
 use native.Mathlib.Omega.{arith}
 use Prim.Native.Nat.{◌+◌}
 use mathlib.Core.Path.{◌≡◌, refl, sym, ap, ◌∙◌}

@@ -1,10 +1,8 @@
 -- `close_sound` meets its contract: the channel is tested, its entry looked for, then the final length, and then `close_at` does the rest.
 -- The length is handed on as a machine word, from which it comes back as it was.
-use borrow.Author.Rules.{rules}
 use native.Mathlib.Omega.{arith}
 use mathlib.Core.Path.{◌≡◌, refl, sym, ◌∙◌}
 use mathlib.Core.Bool.{true}
-use borrow.Author.Tests.{not-true, not-false}
 use mir.Syntax.{w32}
 use mir.ValLaws.{to_z-of_z}
 use Rattle.meaning.specs.declared.Key.TheVariants.{Open}

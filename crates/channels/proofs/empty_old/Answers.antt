@@ -1,5 +1,4 @@
 -- `empty_old` meets its contract, by the cases of what was found.
-use borrow.Author.Rules.{rules}
 use native.Mathlib.Omega.{arith}
 use Rattle.meaning.specs.Answers.{write}
 use Rattle.segment.proofs.Searching.{place_inside}

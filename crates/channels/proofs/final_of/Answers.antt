@@ -1,5 +1,4 @@
 -- `final_of` meets its contract: below 0 there is none, and else the count of blocks is held to the tentative length (Finals).
-use borrow.Author.Rules.{rules}
 use mathlib.Core.Path.{◌≡◌, ◌∙◌}
 use mathlib.Core.Bool.{false}
 use lib.IntN.{pos, nat_abs}

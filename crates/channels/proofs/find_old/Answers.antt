@@ -1,5 +1,4 @@
 -- `find_old` meets its contract: to a FILE.BAD no file gives way, and to any other name the file that is found by it.
-use borrow.Author.Rules.{rules}
 use mathlib.Core.Path.{sym, ap, ◌∙◌}
 use Rattle.segment.specs.Finder.{found_of}
 use Rattle.rules.proofs.Keys.{no_old, old-file}

@@ -1,9 +1,8 @@
 -- `is_inside` meets its contract: its four tests are the definition's, in order; where there is a segment the words of a slot can be read.
-use borrow.Author.Rules.{rules}
 use native.Mathlib.Omega.{arith}
 use mathlib.Core.Path.{◌≡◌, sym, ◌∙◌}
 use mathlib.Core.Bool.{true, false}
-use borrow.Author.Tests.{lt-leb, le-leb, not-true, not-false}
+use borrow.Author.Tests.{lt-leb, le-leb}
 use Prim.Native.Nat.{◌+◌, ◌≤◌, ◌<◌}
 use native.Mathlib.Nat.{div-le_self}
 use Rattle.meaning.specs.Words.{slot_words, slot_count}

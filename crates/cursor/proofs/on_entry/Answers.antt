@@ -1,5 +1,4 @@
 -- `on_entry` meets its contract: past the last slot there is no entry, and the word read is the slot's status (`stands_by`).
-use borrow.Author.Rules.{rules}
 use borrow.Author.Tests.{lt-leb}
 use mathlib.Core.Path.{ap, ◌∙◌}
 use Prim.Native.Nat.{ℕ}

@@ -1,5 +1,4 @@
 -- `see_entry` meets its contract: the words read are those of the slot (`sees`), which lies in the segment.
-use borrow.Author.Rules.{rules}
 use native.Mathlib.Omega.{arith}
 use Prim.Native.Nat.{◌+◌, ◌≤◌}
 use lib.ListN.{get_or}

@@ -1,5 +1,4 @@
 -- `start` meets its contract: past the end of a short slice a word counts as 0.
-use borrow.Author.Rules.{rules}
 use native.Mathlib.Omega.{arith}
 use mathlib.Core.Path.{refl}
 use Prim.Native.Nat.{◌≤◌}

@@ -1,15 +1,6 @@
 -- `step_from` meets its contract. The loop's invariant is `Stepping`: the rows from here on, of the segments still to be asked, are the
 -- rows from the cursor on. A turn ends at an entry or at a link that names no segment, or goes on at the segment that the link names.
-use native.Mathlib.Omega.{arith}
-use mathlib.Core.Path.{◌≡◌, sym, ◌∙◌}
-use borrow.Author.Tests.{not-true, not-false}
-use borrow.Author.Rules.{rules}
-use Prim.Native.Nat.{◌+◌}
-use lib.ListN.{length-take, length-drop}
-use Rattle.walks.proofs.Words.{base}
-use Rattle.cursor.specs.Cursor.{on_entry}
-use Rattle.cursor.proofs.Stepping.{segment-is, standing, entry-slot, entry-part, row-part, Stepping, steps}
-use Rattle.cursor.proofs.Stepping.{at_entry, at_last, at_none, at-link, at-no-slot}
+use Rattle.cursor.proofs.Stepping.{Stepping}
 use Rattle.cursor.proofs.step_from.Given as goal
 
 abbrev pub invariant-loop-left : goal.invariant-loop-left

@@ -1,5 +1,4 @@
 -- `width_of` meets its contract: a word has 16 bits, so that the sum fits.
-use borrow.Author.Rules.{rules}
 use native.Mathlib.Omega.{arith}
 use Rattle.cursor.proofs.width_of.Goals as goal
 

@@ -1,5 +1,4 @@
 -- `word_of` meets its contract: the slot ends within the 507 words, so that nothing wraps.
-use borrow.Author.Rules.{rules}
 use native.Mathlib.Omega.{arith}
 use mathlib.Core.Path.{refl}
 use Rattle.cursor.proofs.Stepping.{slot-fits}

@@ -1,5 +1,4 @@
 -- `lookup` meets its contract: a fault refuses it (`lookup_faulty`), and without one the engine's contract is the same.
-use borrow.Author.Rules.{rules}
 use mathlib.Core.Path.{sym, ap, ◌∙◌}
 use Rattle.meaning.specs.Answers.{refuse}
 use Rattle.walks.proofs.Outcomes.{answer_of}

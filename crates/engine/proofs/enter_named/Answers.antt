@@ -1,5 +1,4 @@
 -- `enter_named` meets its contract: a protected file of the name refuses the enter, and else `enter_file` does the rest.
-use borrow.Author.Rules.{rules}
 use mathlib.Core.Path.{refl, sym, ◌∙◌}
 use Rattle.meaning.specs.Answers.{refuse}
 use Rattle.choice.specs.Asks.{size_by}

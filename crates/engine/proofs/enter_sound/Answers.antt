@@ -1,15 +1,13 @@
 -- `enter_sound` meets its contract: the tests in order, each by its law (`Tested`), and then `enter_named` on a sound directory in which the
 -- channel is free. What has passed is said once for each place.
-use borrow.Author.Rules.{rules}
 use native.Mathlib.Omega.{arith}
 use mathlib.Core.Path.{◌≡◌, refl, sym, ap, ◌∙◌}
 use mathlib.Core.Bool.{true}
-use borrow.Author.Tests.{not-true, not-false}
 use mir.Syntax.{w32}
 use mir.ValLaws.{to_z-of_z}
 use Rattle.meaning.specs.Answers.{refuse}
 use Rattle.meaning.specs.Requests.{legal, good_channel, word_of}
-use Rattle.meaning.specs.Enter.{Size, size_of, good_size}
+use Rattle.meaning.specs.Enter.{size_of, good_size}
 use Rattle.choice.specs.Asks.{size_by}
 use Rattle.chain.proofs.Chains.{fault-chained}
 use Rattle.find.proofs.Behind.{open_found, open_none}

@@ -1,5 +1,4 @@
 -- `serve_known` meets its contract: a fault refuses every request (`faulty`), and without one the engine's contract is the same.
-use borrow.Author.Rules.{rules}
 use mathlib.Core.Path.{refl, sym, ◌∙◌}
 use Rattle.meaning.specs.Answers.{refuse}
 use Rattle.engine.proofs.Tested.{faulty}

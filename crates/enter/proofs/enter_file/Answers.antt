@@ -1,5 +1,4 @@
 -- `enter_file` meets its contract: by the survey's two tests the outcome is refusal 11, refusal 12, or what the placing gives.
-use borrow.Author.Rules.{rules}
 use mathlib.Core.Path.{refl}
 use borrow.Author.Tests.{not-true, not-false}
 use Rattle.meaning.specs.Answers.{refuse}

@@ -1,6 +1,5 @@
 -- `place_file` meets its contract: some area is chosen (`somewhere`), it is one where an entry may be put (`enterable`), and the outcome
 -- is the meaning's (`placed_at`).
-use borrow.Author.Rules.{rules}
 use native.Mathlib.Omega.{arith}
 use Prim.Native.Nat.{ℕ}
 use mathlib.Core.Path.{◌≡◌, ap, ◌∙◌}

@@ -1,7 +1,5 @@
 -- `tidy_if` meets its contract: without an untidy segment the directory is as the tidy leaves it (`tidied-already`).
-use borrow.Author.Rules.{rules}
 use mathlib.Core.Path.{sym, ◌∙◌}
-use borrow.Author.Tests.{not-true}
 use Rattle.meaning.specs.Words.{chain}
 use Rattle.survey.proofs.Along.{tidied-already}
 use Rattle.enter.proofs.Ready.{tidyable}

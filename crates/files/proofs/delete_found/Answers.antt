@@ -1,6 +1,5 @@
 -- `delete_found` meets its contract: a return for each of what the search and the file's status tell; the status is written where the file was
 -- found and is not protected.
-use borrow.Author.Rules.{rules}
 use native.Mathlib.Omega.{arith}
 use mathlib.Core.Path.{◌≡◌, refl, sym, ◌∙◌}
 use Rattle.meaning.specs.declared.Key.TheVariants.{File}

@@ -1,5 +1,4 @@
 -- `delete_sound` meets its contract: the tests of the name give one number, which refuses it or is 0, and then `delete_found` does the rest.
-use borrow.Author.Rules.{rules}
 use mathlib.Core.Path.{refl}
 use Rattle.meaning.specs.Answers.{refuse}
 use Rattle.files.proofs.Tested.{number-refuses, number-passes, delete-named}

@@ -1,7 +1,5 @@
 -- `lookup_sound` meets its contract: each return has the tests that led to it, and each of them is a law (`Tested`).
-use borrow.Author.Rules.{rules}
 use mathlib.Core.Path.{sym, ap, ◌∙◌}
-use borrow.Author.Tests.{not-true, not-false}
 use Rattle.meaning.specs.Answers.{refuse}
 use Rattle.chain.proofs.Chains.{fault-chained}
 use Rattle.meaning.specs.declared.Key.TheVariants.{File}

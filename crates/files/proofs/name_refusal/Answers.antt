@@ -1,7 +1,5 @@
 -- `name_refusal` meets its contract: a return for each way through its two tests.
-use borrow.Author.Rules.{rules}
 use mathlib.Core.Path.{sym, ◌∙◌}
-use borrow.Author.Tests.{not-true, not-false}
 use Rattle.files.proofs.Tested.{name-illegal, name-spared, name_free}
 use Rattle.files.proofs.name_refusal.Goals as goal
 

@@ -1,6 +1,5 @@
 -- `rename_found` meets its contract: a return for each of what the two searches and the file's status tell; the name is written where the old
 -- one was found, unprotected, and the new one was not.
-use borrow.Author.Rules.{rules}
 use native.Mathlib.Omega.{arith}
 use mathlib.Core.Path.{◌≡◌, refl, sym, ◌∙◌}
 use mathlib.Core.Bool.{false}

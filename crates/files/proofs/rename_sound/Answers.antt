@@ -1,9 +1,7 @@
 -- `rename_sound` meets its contract: an illegal name and FILE.BAD are refused, as the old name or the new one, and then `rename_found` does the
 -- rest. What has passed is said once for each place.
-use borrow.Author.Rules.{rules}
 use mathlib.Core.Path.{◌≡◌, refl, sym, ◌∙◌}
 use mathlib.Core.Bool.{true, false}
-use borrow.Author.Tests.{not-true, not-false}
 use Rattle.meaning.specs.Keys.{spared}
 use Rattle.meaning.specs.Answers.{refuse}
 use Rattle.meaning.specs.Requests.{legal}

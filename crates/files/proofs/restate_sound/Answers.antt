@@ -1,6 +1,5 @@
 -- `restate_sound` meets its contract: the tests of the name give one number, which refuses it or is 0, and then `restate_found` does the
 -- rest with the name's key.
-use borrow.Author.Rules.{rules}
 use mathlib.Core.Path.{refl}
 use Rattle.meaning.specs.Answers.{refuse}
 use Rattle.files.proofs.Tested.{number-refuses, number-passes, restate-named}

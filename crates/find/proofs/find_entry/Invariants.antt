@@ -1,14 +1,6 @@
 -- `find_entry` meets its contract. The loop's invariant is `Finding`: what is found in the segments still ahead is what is found in
 -- all. A turn ends at a place, which the segment holds and so the directory, or passes a segment by (`turn`). Assumes nothing.
-use native.Mathlib.Omega.{arith}
-use mathlib.Core.Path.{sym, ◌∙◌}
-use borrow.Author.Rules.{rules}
-use Prim.Native.Nat.{◌+◌}
-use lib.ListN.{length-take, length-drop}
-use Rattle.segment.specs.declared.finder.Found.TheVariants.{At, Nothing}
-use Rattle.chain.proofs.Links.{Next, next}
-use Rattle.walks.proofs.Words.{base}
-use Rattle.find.proofs.Finding.{Finding, starts, turn, turned, found_part, widen}
+use Rattle.find.proofs.Finding.{Finding}
 use Rattle.find.proofs.find_entry.Given as goal
 
 abbrev pub invariant-loop-left : goal.invariant-loop-left

@@ -1,5 +1,4 @@
 -- `captioned` meets its contract: its two writes add up (law `both`).
-use borrow.Author.Rules.{rules}
 use native.Mathlib.Omega.{arith}
 use Rattle.lines.proofs.Writes.{both}
 use Rattle.lines.proofs.captioned.Goals as goal

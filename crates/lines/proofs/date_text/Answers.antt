@@ -1,6 +1,5 @@
 -- `date_text` meets its contract: the day that is read tells whether the word names one (laws `dated`, `undated`), and the five writes
 -- -- of a date add up (laws `both`, `and_one`).
-use borrow.Author.Rules.{rules}
 use native.Mathlib.Omega.{arith}
 use mathlib.Core.Path.{◌≡◌}
 use lib.ListN.{length, length-set}

@@ -1,5 +1,4 @@
 -- `dotted` meets its contract: its three writes add up, the last of the three characters that are left (law `dotted-text`).
-use borrow.Author.Rules.{rules}
 use native.Mathlib.Omega.{arith}
 use lib.ListN.{length-set}
 use Rattle.lines.proofs.Shown.{dotted-text}

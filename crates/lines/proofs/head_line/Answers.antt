@@ -1,5 +1,4 @@
 -- `head_line` meets its contract: its five writes add up, bracketed as the meaning has them (laws `and_both`, `and_one`).
-use borrow.Author.Rules.{rules}
 use native.Mathlib.Omega.{arith}
 use lib.ListN.{length-set}
 use Rattle.lines.specs.Pieces.{head_by}

@@ -1,7 +1,6 @@
 -- `label_line` meets its contract: its three writes add up, bracketed as the meaning has them (law `and_both`).
 use borrow.Author.Rules.{rules}
 use native.Mathlib.Omega.{arith}
-use borrow.Author.Tests.{not-true, not-false}
 use mathlib.Core.Path.{◌≡◌}
 use lib.ListN.{length}
 use Rattle.names.specs.Text.{bytes}

@@ -1,5 +1,4 @@
 -- `letter` meets its contract: three kinds have a letter, which is one byte (law `one`), and two have none.
-use borrow.Author.Rules.{rules}
 use native.Mathlib.Omega.{arith}
 use Rattle.names.specs.Text.{bytes}
 use Rattle.lines.proofs.Writes.{none, one}

@@ -1,5 +1,4 @@
 -- `name_text` meets its contract: the three words spell the nine characters that are written (law `spelled-text`).
-use borrow.Author.Rules.{rules}
 use Rattle.lines.specs.Pieces.{name_by}
 use Rattle.lines.proofs.Shown.{spelled-text}
 use Rattle.lines.proofs.name_text.Goals as goal

@@ -1,11 +1,8 @@
 -- `put_bytes` meets its contract: the loop keeps that as much of the text as it has passed is written (laws `copy-none`, `copy_more`,
 -- `copy-all`).
-use borrow.Author.Rules.{rules}
 use Prim.Native.Nat.{◌+◌, ◌-◌, ◌≤◌}
-use native.Mathlib.Omega.{arith}
 use lib.ListN.{length, take}
 use Rattle.lines.specs.Wrote.{Wrote}
-use Rattle.lines.proofs.Writes.{copy-none, copy_more, copy-all}
 use Rattle.lines.proofs.put_bytes.Given as goal
 
 abbrev pub invariant-loop-i : goal.invariant-loop-i

@@ -1,5 +1,4 @@
 -- `put_ended` meets its contract: one byte adds to what was written (law `and_one`).
-use borrow.Author.Rules.{rules}
 use native.Mathlib.Omega.{arith}
 use Rattle.lines.proofs.Writes.{and_one}
 use Rattle.lines.proofs.put_ended.Goals as goal

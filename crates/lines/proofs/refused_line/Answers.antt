@@ -1,5 +1,4 @@
 -- `refused_line` meets its contract: the line feed adds to what was written (law `and_one`).
-use borrow.Author.Rules.{rules}
 use native.Mathlib.Omega.{arith}
 use Rattle.meaning.specs.Listing.{refused_line}
 use Rattle.names.specs.Text.{bytes}

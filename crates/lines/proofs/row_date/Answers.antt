@@ -1,5 +1,4 @@
 -- `row_date` meets its contract: an empty entry shows the word 0.
-use borrow.Author.Rules.{rules}
 use Rattle.lines.specs.Pieces.{row_date}
 use Rattle.lines.proofs.row_date.Goals as goal
 

@@ -1,5 +1,4 @@
 -- `row_end` meets its contract: a byte, the date and a byte add up (laws `one`, `both`, `and_one`).
-use borrow.Author.Rules.{rules}
 use native.Mathlib.Omega.{arith}
 use lib.ListN.{length-set}
 use Rattle.names.specs.Text.{bytes}

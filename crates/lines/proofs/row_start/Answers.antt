@@ -1,6 +1,5 @@
 -- `row_start` meets its contract: its three writes add up (laws `and_one`, `both`), and words that spell are asked only where there is a
 -- -- name.
-use borrow.Author.Rules.{rules}
 use native.Mathlib.Omega.{arith}
 use lib.ListN.{length-set}
 use mathlib.Core.Path.{sym, ◌∙◌}

@@ -1,5 +1,4 @@
 -- `row_text` meets its contract: its four writes add up (law `both`); each text is named, which spares antt to write it out.
-use borrow.Author.Rules.{rules}
 use native.Mathlib.Omega.{arith}
 use mathlib.Core.List.{◌++◌}
 use Rattle.meaning.specs.Listing.{six_wide}

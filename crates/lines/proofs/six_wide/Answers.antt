@@ -1,5 +1,4 @@
 -- `six_wide` meets its contract: the six bytes before the end of the number are the number six wide (law `six-before`).
-use borrow.Author.Rules.{rules}
 use native.Mathlib.Omega.{arith}
 use Rattle.lines.proofs.Digits.{six-before, six-long}
 use Rattle.lines.proofs.six_wide.Goals as goal

@@ -1,5 +1,4 @@
 -- `two_digits` meets its contract: it is two writes of one byte (law `two`).
-use borrow.Author.Rules.{rules}
 use Prim.Native.Nat.{◌+◌, ◌/◌, ◌%◌}
 use native.Mathlib.Omega.{arith}
 use lib.ListN.{length-set}

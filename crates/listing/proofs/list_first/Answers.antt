@@ -1,10 +1,8 @@
 -- `list_first` meets its contract: a bad head has the line of 17 (law `bad-head`); with a good one the words that are listed are the
 -- directory's (laws `loaded`, `good-head`).
-use borrow.Author.Rules.{rules}
 use mathlib.Core.Path.{◌≡◌, sym, ap, ◌∙◌}
 use mathlib.Core.Bool.{true}
 use native.Mathlib.Omega.{arith}
-use borrow.Author.Tests.{not-true, not-false}
 use lib.ListN.{length}
 use Rattle.meaning.specs.Listing.{directory_in}
 use Rattle.listing.specs.Bounds.{good_head_of}

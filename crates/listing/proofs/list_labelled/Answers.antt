@@ -1,6 +1,5 @@
 -- `list_labelled` meets its contract: a number that is not 0 is a refusal's (law `refused_labelled`), and 0 that of a sound directory, whose
 -- listing adds to the label's line (law `labelled_text_lem`).
-use borrow.Author.Rules.{rules}
 use mathlib.Core.Path.{sym, ◌∙◌}
 use Rattle.listing.proofs.Second.{labelled_text_lem, refused_labelled}
 use Rattle.listing.proofs.list_labelled.Goals as goal

@@ -1,6 +1,5 @@
 -- `list_second` meets its contract: a label that is refused has the line of its number (law `bad-block`); with any other the words that are
 -- listed are the directory's (laws `loaded`, `good-block`).
-use borrow.Author.Rules.{rules}
 use mathlib.Core.Path.{ap, ◌∙◌}
 use native.Mathlib.Omega.{arith}
 use lib.ListN.{length}

@@ -2,7 +2,6 @@
 -- (law `sound-text`).
 use native.Mathlib.Omega.{arith}
 use Rattle.listing.proofs.Whole.{HeadFits, head-fits, sound-text}
-use borrow.Author.Rules.{rules}
 use Rattle.listing.proofs.list_sound.Goals.{Start}
 use Rattle.listing.proofs.list_sound.Goals as goal
 

@@ -1,7 +1,6 @@
 -- `list_words` meets its contract: a number that is not 0 is a refusal's (law `refused-text`), and 0 that of a sound directory.
 use mathlib.Core.Path.{sym, ◌∙◌}
 use Rattle.listing.proofs.Whole.{refused-text, no-fault}
-use borrow.Author.Rules.{rules}
 use Rattle.listing.proofs.list_words.Goals as goal
 
 pub returns-then-number-ne0 : goal.returns-then-number-ne0

@@ -1,6 +1,5 @@
 -- `listing` meets its contract: a good head file of version 2 has its listing (law `listed-second`), and any other document 01's (law
 -- `listed-first`).
-use borrow.Author.Rules.{rules}
 use mathlib.Core.Path.{◌≡◌, sym, ◌∙◌}
 use mathlib.Core.Bool.{true}
 use native.Mathlib.Omega.{arith}

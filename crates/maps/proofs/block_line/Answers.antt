@@ -1,5 +1,4 @@
 -- `block_line` meets its contract: its five writes add up (laws `both`, `and_one`).
-use borrow.Author.Rules.{rules}
 use native.Mathlib.Omega.{arith}
 use lib.ListN.{length-set}
 use Rattle.names.specs.Text.{bytes}

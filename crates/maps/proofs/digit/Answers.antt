@@ -1,5 +1,4 @@
 -- `digit` meets its contract: it is the definition.
-use borrow.Author.Rules.{rules}
 use mathlib.Core.Path.{refl}
 use Rattle.maps.specs.Maps.{octal_digit}
 use Rattle.maps.proofs.digit.Goals as goal

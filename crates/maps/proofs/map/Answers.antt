@@ -1,7 +1,5 @@
 -- `map` meets its contract: the room decides (laws `map-refused`, `map-made`).
-use borrow.Author.Rules.{rules}
 use mathlib.Core.Path.{sym, ◌∙◌}
-use borrow.Author.Tests.{not-true, not-false}
 use Rattle.maps.proofs.Mapping.{map-refused, map-made}
 use Rattle.maps.proofs.map.Goals as goal
 

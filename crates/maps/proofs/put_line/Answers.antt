@@ -1,5 +1,4 @@
 -- `put_line` meets its contract, arm by arm.
-use borrow.Author.Rules.{rules}
 use native.Mathlib.Omega.{arith}
 use Rattle.lines.proofs.Writes.{none}
 use Rattle.maps.proofs.put_line.Goals as goal

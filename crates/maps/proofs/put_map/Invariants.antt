@@ -1,10 +1,7 @@
 -- `put_map` meets its contract: each turn leaves what `Mapping` says of the stream behind the part (laws `map_goes`, `map-ends`).
-use borrow.Author.Rules.{rules}
-use native.Mathlib.Omega.{arith}
 use Prim.Native.Nat.{◌-◌}
-use mathlib.Core.Path.{sym, ◌∙◌}
 use lib.ListN.{length}
-use Rattle.maps.proofs.Mapping.{Mapping, map-begins, map-shown, map-passes, map-room, map-last-room, map_goes, map-ends}
+use Rattle.maps.proofs.Mapping.{Mapping}
 use Rattle.maps.proofs.put_map.Given as goal
 
 abbrev pub invariant-loop-out : goal.invariant-loop-out

@@ -1,5 +1,4 @@
 -- `put_octal` meets its contract: the six digits are copied as one text.
-use borrow.Author.Rules.{rules}
 use native.Mathlib.Omega.{arith}
 use Rattle.maps.specs.Maps.{octal}
 use Rattle.maps.proofs.put_octal.Goals as goal

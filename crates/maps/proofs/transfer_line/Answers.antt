@@ -1,5 +1,4 @@
 -- `transfer_line` meets its contract: its three writes add up (laws `both`, `and_one`).
-use borrow.Author.Rules.{rules}
 use native.Mathlib.Omega.{arith}
 use lib.ListN.{length-set}
 use Rattle.names.specs.Text.{bytes}

@@ -1,5 +1,4 @@
 -- `read_at` meets its contract: a number that is not 0 is handed on, and else what is read is what the step gives.
-use borrow.Author.Rules.{rules}
 use mathlib.Core.Path.{sym, ◌∙◌}
 use Rattle.reader.proofs.Reading.{refused-at, entry_at, end_at}
 use Rattle.reader.proofs.read_at.Goals as goal

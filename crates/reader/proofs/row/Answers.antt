@@ -1,5 +1,4 @@
 -- `row` meets its contract: a reader that was opened and moved reads the row (law `row_is`).
-use Prim.Native.Nat.{ℕ}
 use Rattle.reader.specs.Read.{Answers, read_at, opened, moved_by}
 use Rattle.reader.specs.declared.Reader.{Reader}
 use Rattle.reader.proofs.Reading.{row_is}

@@ -1,9 +1,7 @@
 -- `skip` meets its contract. The loop's invariant: the place after what is left to skip, from here, is the place after all of it; a
 -- step takes one off (`skip_on`), and at the end nothing moves (`skip_end`). A refused reader stays.
-use mathlib.Core.Path.{◌≡◌, refl, sym, ◌∙◌}
-use borrow.Author.Rules.{rules}
+use mathlib.Core.Path.{◌≡◌}
 use Rattle.reader.specs.Read.{skipped}
-use Rattle.reader.proofs.Reading.{skip_on, skip_none, skip_end, stays, skips}
 use Rattle.reader.proofs.skip.Given as goal
 
 abbrev pub invariant-loop-left : goal.invariant-loop-left

@@ -1,5 +1,4 @@
 -- `entry_words` meets its contract: seven words stored into zeros, by computation.
-use borrow.Author.Rules.{rules}
 use mathlib.Core.Path.{refl}
 use Rattle.meaning.specs.Requests.{entry_of}
 use Rattle.render.proofs.entry_words.Goals as goal

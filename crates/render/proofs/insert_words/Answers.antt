@@ -1,5 +1,4 @@
 -- `insert_words` meets its contract: its writes are those of `InPlace`, one after the other.
-use borrow.Author.Rules.{rules}
 use native.Mathlib.Omega.{arith}
 use mathlib.Core.Path.{◌≡◌, sym, ◌∙◌}
 use Prim.Native.Nat.{◌+◌, ◌<◌}

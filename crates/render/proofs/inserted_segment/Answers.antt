@@ -1,5 +1,4 @@
 -- `inserted_segment` meets its contract: header, words with the new entry among them, and marker written into zeros.
-use borrow.Author.Rules.{rules}
 use native.Mathlib.Omega.{arith}
 use Rattle.render.specs.Anew.{rendered_words}
 use Rattle.render.proofs.Anew.{segment-written}

@@ -1,5 +1,4 @@
 -- `put_gap` meets its contract: at cost 2 the array begins with the gap's words, and else there are none to write.
-use borrow.Author.Rules.{rules}
 use mathlib.Core.Path.{sym}
 use Rattle.segment.proofs.Writes.{none_written}
 use Rattle.render.proofs.Anew.{gap_array_lem, gap-due, gap-none}

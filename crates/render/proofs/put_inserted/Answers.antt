@@ -1,5 +1,4 @@
 -- `put_inserted` meets its contract: four writes, each where the one before it ends, and then the area's length changed.
-use borrow.Author.Rules.{rules}
 use native.Mathlib.Omega.{arith}
 use mathlib.Core.Path.{◌≡◌, sym, ap, ◌∙◌}
 use Prim.Native.Nat.{◌+◌, ◌-◌, ◌<◌}

@@ -1,5 +1,4 @@
 -- `accept` meets its contract: damage beyond repair has its number, and else the proposal passes or is rejected.
-use borrow.Author.Rules.{rules}
 use mathlib.Core.Path.{sym, ap, ◌∙◌}
 use Rattle.repaired.specs.Kept.{beyond}
 use Rattle.repair.proofs.Judged.{reparable, test_beyond, test_passes, test_fails}

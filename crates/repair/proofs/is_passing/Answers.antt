@@ -1,5 +1,4 @@
 -- `is_passing` meets its contract: another length, a fault or other files make a proposal fail.
-use borrow.Author.Rules.{rules}
 use mathlib.Core.Path.{sym, ◌∙◌}
 use Rattle.chain.proofs.Chains.{fault-chained}
 use Rattle.repair.proofs.Judged.{other_size, unsound, by_files}

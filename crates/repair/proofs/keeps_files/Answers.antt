@@ -1,5 +1,4 @@
 -- `keeps_files` meets its contract: both tables list what is kept (law of `list_files`), and are compared.
-use borrow.Author.Rules.{rules}
 use native.Mathlib.Omega.{arith}
 use mathlib.Core.Path.{sym, ap₂, ◌∙◌}
 use lib.Seq.{length-take-le}

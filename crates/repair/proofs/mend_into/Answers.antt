@@ -1,5 +1,4 @@
 -- `mend_into` meets its contract: the table lists what is kept (law of `list_files`).
-use borrow.Author.Rules.{rules}
 use native.Mathlib.Omega.{arith}
 use mathlib.Core.Path.{sym}
 use lib.ListN.{length-take}

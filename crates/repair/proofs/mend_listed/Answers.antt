@@ -1,5 +1,4 @@
 -- `mend_listed` meets its contract: the sorted first blocks are those of the files to be kept, and what is mended was a copy.
-use borrow.Author.Rules.{rules}
 use mathlib.Core.Path.{◌∙◌}
 use Rattle.repair.proofs.Judged.{copied-over, mended-copy}
 use Rattle.repair.proofs.mend_listed.Goals as goal

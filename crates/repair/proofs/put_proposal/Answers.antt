@@ -1,8 +1,6 @@
 -- `put_proposal` meets its contract: what is made is the proposal, and by the test it goes over the words or not.
-use borrow.Author.Rules.{rules}
 use native.Mathlib.Omega.{arith}
 use mathlib.Core.Path.{◌∙◌}
-use borrow.Author.Tests.{not-true, not-false}
 use Rattle.repair.proofs.Judged.{none-proposed, one-proposed, copied-over}
 use Rattle.repair.proofs.put_proposal.Goals as goal
 

@@ -1,5 +1,4 @@
 -- `repair` meets its contract: a sound directory and damage beyond repair stay; else the proposal is put over the words, or not.
-use borrow.Author.Rules.{rules}
 use native.Mathlib.Omega.{arith}
 use mathlib.Core.Path.{◌≡◌, sym, ap, ◌∙◌}
 use mathlib.Core.Bool.{false}

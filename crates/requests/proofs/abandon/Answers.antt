@@ -1,5 +1,4 @@
 -- `abandon` meets its contract: the record that it hands to `serve` is one of its kind, so `serve` is `abandon` there.
-use borrow.Author.Rules.{rules}
 use Rattle.meaning.specs.Batch.{serve}
 use Rattle.requests.proofs.abandon.Goals as goal
 

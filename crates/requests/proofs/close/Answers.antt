@@ -1,6 +1,5 @@
 -- `close` meets its contract: the record that it hands to `serve` is one of its kind, so `serve` is `close` there;
 -- its signed number comes back from the machine's word as it was.
-use borrow.Author.Rules.{rules}
 use mir.Syntax.{w32}
 use mir.ValLaws.{to_z-of_z}
 use Rattle.meaning.specs.Batch.{serve}

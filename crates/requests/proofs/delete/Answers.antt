@@ -1,5 +1,4 @@
 -- `delete` meets its contract: it is `on_file`'s, of its own kind.
-use borrow.Author.Rules.{rules}
 use Rattle.requests.proofs.delete.Goals as goal
 
 pub returns : goal.returns

@@ -1,5 +1,4 @@
 -- `on_file` meets its contract: the record that it hands to `serve` is one of its kind, so `serve` is that request there.
-use borrow.Author.Rules.{rules}
 use Rattle.meaning.specs.Batch.{serve}
 use Rattle.requests.proofs.on_file.Goals as goal
 

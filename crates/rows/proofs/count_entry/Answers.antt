@@ -1,6 +1,5 @@
 -- `count_entry` meets its contract: each arm adds to the total of its kind (laws `count_open` to `count_unknown`).
 use Rattle.rows.proofs.Sums.{count_open, count-free, count-file, count_end, count_unknown}
-use borrow.Author.Rules.{rules}
 use Rattle.rows.proofs.count_entry.Goals as goal
 
 pub returns-in-Tentative : goal.returns-in-Tentative

@@ -1,9 +1,6 @@
 -- `put_rows` meets its contract: the loop keeps that the text written, and that of the rows ahead, are that of all rows (laws of Shows).
-use borrow.Author.Rules.{rules}
 use mathlib.Core.Path.{sym, ◌∙◌}
-use lib.ListN.{length}
-use Rattle.cursor.specs.Cursor.{rows_at}
-use Rattle.rows.proofs.Shows.{Showing, show_none, shown, show_all, show_less, show_more}
+use Rattle.rows.proofs.Shows.{show_none, shown, show_all, show_less, show_more}
 use Rattle.rows.proofs.put_rows.Goals as goal
 
 pub loop-seen-init : goal.loop-seen-init

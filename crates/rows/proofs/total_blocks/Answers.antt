@@ -1,10 +1,7 @@
 -- `total_blocks` meets its contract: the loop keeps that the blocks counted, and those of the rows ahead, are those of all entries
 -- (laws of Sums).
-use borrow.Author.Rules.{rules}
 use mathlib.Core.Path.{sym, ◌∙◌}
-use lib.ListN.{length}
-use Rattle.cursor.specs.Cursor.{rows_at}
-use Rattle.rows.proofs.Sums.{Summing, sum-none, sum_fits, sum-all, sum_less, sum_more}
+use Rattle.rows.proofs.Sums.{sum-none, sum_fits, sum-all, sum_less, sum_more}
 use Rattle.rows.proofs.total_blocks.Goals as goal
 
 pub loop-seen-init : goal.loop-seen-init

@@ -1,5 +1,4 @@
 -- `judge` meets its contract: a return for each test (`is_open_lem`, `is-short`, `is-over`), and one where none holds.
-use borrow.Author.Rules.{rules}
 use native.Mathlib.Omega.{arith}
 use mathlib.Core.Path.{◌≡◌, sym, ◌∙◌}
 use mathlib.Core.Bool.{false}

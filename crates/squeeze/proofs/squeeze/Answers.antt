@@ -1,6 +1,5 @@
 -- `squeeze` meets its contract: a fault and a refusal are reported and nothing is written (`faulty`, `refused`); else the list and the words are
 -- those of the pass that writes (`carried-out`).
-use borrow.Author.Rules.{rules}
 use mathlib.Core.Path.{◌≡◌, sym, ◌∙◌}
 use Rattle.meaning.specs.Sound.{fault}
 use Rattle.squeeze.proofs.Judged.{faulty, refused, list-room, segments-room, carried-out}

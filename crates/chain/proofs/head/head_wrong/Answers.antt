@@ -1,6 +1,5 @@
 -- `head_wrong` meets its contract: its five tests are rule 2's, in order; the last is the bound from the other side (`above_not`).
 -- Assumes nothing.
-use borrow.Author.Rules.{rules}
 use native.Mathlib.Omega.{arith}
 use borrow.Author.Tests.{le-leb, lt-leb, eq-eqb, ne_eqb}
 use lib.ListN.{get_or}

@@ -1,6 +1,5 @@
 -- `size_wrong` meets its contract: its five tests are the definition's, in order; the last is the bound from the other side
 -- (`above_not`). Assumes nothing.
-use borrow.Author.Rules.{rules}
 use borrow.Author.Tests.{le-leb, lt-leb, eq-eqb, ne_eqb}
 use Rattle.chain.specs.Head.{size_wrong}
 use Rattle.chain.proofs.Chains.{above_not}

@@ -1,11 +1,10 @@
 -- `first_fit` meets its contract: the loop keeps `Choosing`, that what is chosen in the segments ahead is what is chosen in all,
 -- and its measure is the segments left.
-use borrow.Author.Rules.{rules}
 use native.Mathlib.Omega.{arith}
 use Prim.Native.Nat.{◌+◌, ◌*◌, ◌-◌}
 use lib.ListN.{length-take, length-drop}
 use Rattle.chain.proofs.Links.{Next, next}
-use Rattle.choice.proofs.FirstFit.{Choosing, starts, none-chosen, pass_by, chosen-here}
+use Rattle.choice.proofs.FirstFit.{starts, none-chosen, pass_by, chosen-here}
 use Rattle.choice.proofs.choose.first_fit.Goals.{In-loop-left}
 use Rattle.choice.proofs.choose.first_fit.Goals as goal
 

@@ -1,7 +1,5 @@
 -- `fit_at` meets its contract: without a long area there is no fit (`no-fit`), and else the free slots stand for the room (`fit_by`).
-use borrow.Author.Rules.{rules}
 use mathlib.Core.Path.{sym, ◌∙◌}
-use borrow.Author.Tests.{not-true}
 use Rattle.choice.proofs.Longs.{no-fit, fit_by}
 use Rattle.choice.proofs.choose.fit_at.Goals as goal
 

@@ -1,11 +1,6 @@
 -- `fit_in` meets its contract: the loop keeps `Fitting`, that what is chosen among the entries ahead is what is chosen among
 -- all, and its measure is the slots left. The body ends at the marker, ends at a fit, or passes a slot by.
-use native.Mathlib.Omega.{arith}
-use mathlib.Core.Path.{sym, ◌∙◌}
-use borrow.Author.Rules.{rules}
-use Prim.Native.Nat.{◌+◌, ◌≤◌}
-use Rattle.walks.proofs.Slots.{mul_less}
-use Rattle.choice.proofs.Fitting.{Fitting, starts, fit-over, fit-end, fit_hit, fit_miss}
+use Rattle.choice.proofs.Fitting.{Fitting}
 use Rattle.choice.proofs.choose.fit_in.Given as goal
 
 abbrev pub invariant-loop-left : goal.invariant-loop-left

@@ -1,14 +1,10 @@
 -- `has_long` meets its contract: the loop keeps `Looking`, that what is found among the entries ahead is what is found among all,
 -- and its measure is the slots left.
-use borrow.Author.Rules.{rules}
-use native.Mathlib.Omega.{arith}
-use mathlib.Core.Path.{sym, ◌∙◌}
-use Prim.Native.Nat.{◌+◌, ◌≤◌}
 use Rattle.meaning.specs.Words.{slots, upto}
 use Rattle.meaning.specs.Sound.{any}
-use Rattle.segment.proofs.Looking.{Looking, looking, look_over, look_fits, look_end, look_found, look_on}
+use Rattle.segment.proofs.Looking.{Looking}
 use Rattle.choice.specs.Judged.{long_entry}
-use Rattle.choice.proofs.Longs.{long_test, long-found, any-before}
+use Rattle.choice.proofs.Longs.{long_test}
 use Rattle.choice.proofs.choose.has_long.Given as goal
 
 abbrev pub invariant-loop-left : goal.invariant-loop-left

@@ -1,6 +1,4 @@
 -- `is_fit` meets its contract: its tests are those of `fitting`, in the same order.
-use borrow.Author.Rules.{rules}
-use borrow.Author.Tests.{not-true, not-false}
 use Rattle.choice.specs.Judged.{fitting}
 use Rattle.choice.proofs.choose.is_fit.Goals as goal
 

@@ -1,7 +1,5 @@
 -- `is_long` meets its contract: its tests are those of `long`.
-use borrow.Author.Rules.{rules}
 use mathlib.Core.Path.{sym, ◌∙◌}
-use borrow.Author.Tests.{not-true, not-false}
 use Rattle.choice.specs.Judged.{long}
 use Rattle.choice.proofs.choose.is_long.Goals as goal
 

@@ -1,5 +1,4 @@
 -- `free_beside` meets its contract, as `free_in` does.
-use borrow.Author.Rules.{rules}
 use Rattle.choice.proofs.Rooms.{spare_free, counted-free}
 use Rattle.choice.proofs.room.free_beside.Goals as goal
 

@@ -1,5 +1,4 @@
 -- `free_in` meets its contract: with a segment to spare there is room for any cost, and else for what the count leaves.
-use borrow.Author.Rules.{rules}
 use Rattle.choice.proofs.Rooms.{spare_free, counted-free}
 use Rattle.choice.proofs.room.free_in.Goals as goal
 

@@ -1,5 +1,4 @@
 -- `free_of` meets its contract, in both cases of its test; a segment has at least one slot, for the marker.
-use borrow.Author.Rules.{rules}
 use native.Mathlib.Omega.{arith}
 use Rattle.segment.proofs.Ahead.{some-slot}
 use Rattle.choice.proofs.Rooms.{none_free, some-free}

@@ -1,5 +1,4 @@
 -- `is_eligible` meets its contract: its tests are those of the meaning, in the same order.
-use borrow.Author.Rules.{rules}
 use borrow.Author.Tests.{le-leb, lt-leb}
 use Rattle.choice.specs.Room.{eligible_by}
 use Rattle.choice.proofs.room.is_eligible.Goals as goal

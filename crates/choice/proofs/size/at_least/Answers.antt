@@ -1,5 +1,4 @@
 -- `at_least` meets its contract: each case of the enum is the meaning's case of that name.
-use borrow.Author.Rules.{rules}
 use Rattle.meaning.specs.Enter.{at_least}
 use Rattle.choice.proofs.size.at_least.Goals as goal
 

@@ -1,6 +1,5 @@
 -- `size_of` meets its contract: the two tests of the sign decide the negative sizes, and the number behind a good sign is a
 -- length, of which the other tests decide.
-use borrow.Author.Rules.{rules}
 use Rattle.choice.proofs.Sizes.{is-longest, is_negative, held_fits, is_default, is_large, is-exact}
 use Rattle.choice.proofs.size.size_of.Goals as goal
 

@@ -1,6 +1,5 @@
 -- `wanted_of` meets its contract: each case of the enum is the meaning's case of that name, and of a half and the second longest
 -- the test picks the greater.
-use borrow.Author.Rules.{rules}
 use native.Mathlib.Omega.{arith}
 use mathlib.Core.Path.{refl}
 use Rattle.choice.proofs.Sizes.{wants_longest, wants_half, wants_second, wants_none, wants_exact}

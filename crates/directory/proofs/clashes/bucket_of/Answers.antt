@@ -1,5 +1,4 @@
 -- `bucket_of` meets its contract: an arm for each key, with the words of that key. Assumes nothing.
-use borrow.Author.Rules.{rules}
 use Rattle.directory.specs.Buckets.{bucket_of}
 use Rattle.directory.proofs.clashes.bucket_of.Goals as goal
 

@@ -1,6 +1,5 @@
 -- `entries_clash` meets its contract: the entries listed are those that can clash, and leaving out the others changes no clash.
 -- Assumes nothing.
-use borrow.Author.Rules.{rules}
 use mathlib.Core.Path.{refl, ap, ◌∙◌}
 use Rattle.meaning.specs.Words.{all_entries}
 use Rattle.meaning.specs.Sound.{clashes, bad6}

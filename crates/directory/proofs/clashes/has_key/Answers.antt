@@ -1,5 +1,4 @@
 -- `has_key` meets its contract: a permanent entry has a key, and any other if it is tentative.
-use borrow.Author.Rules.{rules}
 use native.Mathlib.Omega.{arith}
 use Rattle.directory.proofs.Clashing.{key-permanent, key_else}
 use Rattle.directory.proofs.clashes.has_key.Goals as goal

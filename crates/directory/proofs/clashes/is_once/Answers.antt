@@ -1,5 +1,4 @@
 -- `is_once` meets its contract: an arm for each key, as the definition has it. Assumes nothing.
-use borrow.Author.Rules.{rules}
 use Rattle.meaning.specs.Keys.{once}
 use Rattle.directory.proofs.clashes.is_once.Goals as goal
 

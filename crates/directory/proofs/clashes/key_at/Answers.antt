@@ -1,6 +1,5 @@
 -- `key_at` meets its contract: a listed entry that is not tentative is permanent, and the words read are the slot's own.
 -- Assumes nothing.
-use borrow.Author.Rules.{rules}
 use native.Mathlib.Omega.{arith}
 use mathlib.Core.Path.{sym, ap, ◌∙◌}
 use mathlib.Core.Option.{some}

@@ -1,12 +1,6 @@
 -- `list_chain` meets its contract. The loop's invariant is `Segments`: the places listed, and those of the segments ahead, are all. A
 -- segment that rule 3 visits lies in the directory; the measure is the segments left. Assumes nothing.
-use native.Mathlib.Omega.{arith}
-use borrow.Author.Rules.{rules}
-use Prim.Native.Nat.{◌+◌}
-use lib.ListN.{length-take, length-drop}
-use Rattle.chain.proofs.Links.{Next}
-use Rattle.walks.proofs.Words.{base}
-use Rattle.directory.proofs.Listing.{Segments, segments-start, segment-here, segments-next, segments-done}
+use Rattle.directory.proofs.Listing.{Segments}
 use Rattle.directory.proofs.clashes.list_chain.Given as goal
 
 abbrev pub invariant-loop-left : goal.invariant-loop-left

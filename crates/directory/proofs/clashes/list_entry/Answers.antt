@@ -1,6 +1,5 @@
 -- `list_entry` meets its contract: the place is written after those listed (`listed-entry`), or the list stays as it is
 -- (`passed_entry`). Assumes nothing.
-use borrow.Author.Rules.{rules}
 use mathlib.Core.Path.{sym, ◌∙◌}
 use Rattle.directory.proofs.Listing.{listed-entry, passed_entry}
 use Rattle.directory.proofs.clashes.list_entry.Goals as goal

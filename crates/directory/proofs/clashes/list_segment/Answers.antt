@@ -2,9 +2,8 @@
 -- that can clash, are those listed before and all of the segment's. The measure is the slots left. Assumes nothing.
 use native.Mathlib.Omega.{arith}
 use mathlib.Core.Path.{sym, ◌∙◌}
-use borrow.Author.Rules.{rules}
 use Prim.Native.Nat.{◌+◌, ◌≤◌}
-use Rattle.directory.proofs.Listing.{Slots, slots-start, slots-fit, slots-marker, slots_next, slots-done}
+use Rattle.directory.proofs.Listing.{slots-start, slots-fit, slots-marker, slots_next, slots-done}
 use Rattle.directory.proofs.clashes.list_segment.Goals.{In-loop-left}
 use Rattle.directory.proofs.clashes.list_segment.Goals as goal
 

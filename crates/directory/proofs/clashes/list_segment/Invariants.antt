@@ -1,10 +1,6 @@
 -- `list_segment` meets its contract. The loop's invariant is `Slots`: the places listed, and those of the entries ahead in the segment
 -- that can clash, are those listed before and all of the segment's. The measure is the slots left. Assumes nothing.
-use native.Mathlib.Omega.{arith}
-use mathlib.Core.Path.{sym, ◌∙◌}
-use borrow.Author.Rules.{rules}
-use Prim.Native.Nat.{◌+◌, ◌≤◌}
-use Rattle.directory.proofs.Listing.{Slots, slots-start, slots-fit, slots-marker, slots_next, slots-done}
+use Rattle.directory.proofs.Listing.{Slots}
 use Rattle.directory.proofs.clashes.list_segment.Given as goal
 
 abbrev pub invariant-loop-left : goal.invariant-loop-left

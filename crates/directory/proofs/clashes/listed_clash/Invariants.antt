@@ -1,11 +1,7 @@
 -- `listed_clash` meets its contract. The loop's invariant is `Table`: the buckets hold the entries passed, no two of which clash.
 -- An entry whose key is met among those before it clashes with one of them; the measure is the entries left. Assumes nothing.
-use native.Mathlib.Omega.{arith}
-use borrow.Author.Rules.{rules}
-use Prim.Native.Nat.{ℕ, ◌+◌, ◌-◌}
-use lib.ListN.{get_or, length-replicate, get_or-replicate}
-use Rattle.directory.specs.Buckets.{Candidate}
-use Rattle.directory.proofs.Buckets.{Table, table-start, table-first, table-found, table_more, table_done}
+use Prim.Native.Nat.{◌-◌}
+use Rattle.directory.proofs.Buckets.{Table}
 use Rattle.directory.proofs.clashes.listed_clash.Given as goal
 
 abbrev pub invariant-loop-passed : goal.invariant-loop-passed

@@ -2,11 +2,10 @@
 -- found among all entries passed; it counts if the key may stand once. Each entry leads to an earlier one, so the measure is its number.
 -- Assumes nothing.
 use native.Mathlib.Omega.{arith}
-use borrow.Author.Rules.{rules}
 use Prim.Native.Nat.{◌-◌, ◌<◌}
 use lib.ListN.{get_or}
 use Rattle.directory.specs.Buckets.{Candidate}
-use Rattle.directory.proofs.Buckets.{Walk, walk_start, walk_hit, walk_next, walk_less, walk_end}
+use Rattle.directory.proofs.Buckets.{walk_start, walk_hit, walk_next, walk_less, walk_end}
 use Rattle.directory.proofs.clashes.met.Goals.{In-loop-number}
 use Rattle.directory.proofs.clashes.met.Goals as goal
 

@@ -1,12 +1,8 @@
 -- `met` meets its contract. The loop's invariant is `Walk`: what is found from the entry at hand on, along its bucket, is what is
 -- found among all entries passed; it counts if the key may stand once. Each entry leads to an earlier one, so the measure is its number.
 -- Assumes nothing.
-use native.Mathlib.Omega.{arith}
-use borrow.Author.Rules.{rules}
-use Prim.Native.Nat.{◌-◌, ◌<◌}
-use lib.ListN.{get_or}
-use Rattle.directory.specs.Buckets.{Candidate}
-use Rattle.directory.proofs.Buckets.{Walk, walk_start, walk_hit, walk_next, walk_less, walk_end}
+use Prim.Native.Nat.{◌-◌}
+use Rattle.directory.proofs.Buckets.{Walk}
 use Rattle.directory.proofs.clashes.met.Given as goal
 
 abbrev pub invariant-loop-number : goal.invariant-loop-number

@@ -1,5 +1,4 @@
 -- `some_clash` meets its contract: fewer than two entries don't clash (`few-seen`), and of more `listed_clash` tells.
-use borrow.Author.Rules.{rules}
 use mathlib.Core.Path.{sym}
 use Rattle.directory.proofs.Clashing.{few-seen}
 use Rattle.directory.proofs.clashes.some_clash.Goals as goal

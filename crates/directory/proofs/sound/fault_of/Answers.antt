@@ -1,6 +1,5 @@
 -- `fault_of` meets its contract: each return has the tests that led to it, and by `fault-is` the number is that of the first rule
 -- broken. What a test presumes is what those before it gave.
-use borrow.Author.Rules.{rules}
 use native.Mathlib.Omega.{arith}
 use mathlib.Core.Path.{◌≡◌, sym, ap, ◌∙◌}
 use mathlib.Core.Bool.{true, false, not}

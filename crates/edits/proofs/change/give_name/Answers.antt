@@ -1,5 +1,4 @@
 -- `give_name` meets its contract: its stores are the three writes, in order.
-use borrow.Author.Rules.{rules}
 use native.Mathlib.Omega.{arith}
 use mathlib.Core.Path.{refl}
 use lib.ListN.{length-set}

@@ -1,5 +1,4 @@
 -- `give_status` meets its contract: its store is the one write.
-use borrow.Author.Rules.{rules}
 use native.Mathlib.Nat.{add-zero}
 use Rattle.meaning.specs.Answers.{write}
 use Rattle.edits.proofs.change.give_status.Goals as goal

@@ -1,5 +1,4 @@
 -- `make_permanent` meets its contract: its stores are the four writes, in order, and the sum is of the words as they came.
-use borrow.Author.Rules.{rules}
 use native.Mathlib.Omega.{arith}
 use native.Mathlib.Nat.{add-zero}
 use lib.ListN.{length-set}

@@ -1,10 +1,9 @@
 -- `clear` meets its contract. The loop's invariant: the words so far are 0, and those ahead as they were.
 use native.Mathlib.Omega.{arith}
-use mathlib.Core.Path.{◌≡◌, refl, ◌∙◌}
+use mathlib.Core.Path.{refl, ◌∙◌}
 use borrow.Author.Rules.{rules}
-use Prim.Native.Nat.{◌≤◌, ◌-◌}
-use lib.ListN.{length, drop, replicate, length-set}
-use mathlib.Core.List.{◌++◌}
+use Prim.Native.Nat.{◌-◌}
+use lib.ListN.{length-set}
 use borrow.Author.Fill.{fill_none, fill_more}
 use Rattle.edits.proofs.Started.{all_cleared}
 use Rattle.edits.proofs.fresh.clear.Goals as goal

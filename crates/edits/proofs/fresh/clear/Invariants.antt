@@ -1,12 +1,8 @@
 -- `clear` meets its contract. The loop's invariant: the words so far are 0, and those ahead as they were.
-use native.Mathlib.Omega.{arith}
-use mathlib.Core.Path.{◌≡◌, refl, ◌∙◌}
-use borrow.Author.Rules.{rules}
+use mathlib.Core.Path.{◌≡◌}
 use Prim.Native.Nat.{◌≤◌, ◌-◌}
-use lib.ListN.{length, drop, replicate, length-set}
+use lib.ListN.{length, drop, replicate}
 use mathlib.Core.List.{◌++◌}
-use borrow.Author.Fill.{fill_none, fill_more}
-use Rattle.edits.proofs.Started.{all_cleared}
 use Rattle.edits.proofs.fresh.clear.Given as goal
 
 abbrev pub invariant-loop-i : goal.invariant-loop-i

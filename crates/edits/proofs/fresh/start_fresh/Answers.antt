@@ -1,6 +1,5 @@
 -- `start_fresh` meets its contract: seven words set among zeros are the words of a fresh start (law `started`); the numbers fit a
 -- word by rule 1.
-use borrow.Author.Rules.{rules}
 use native.Mathlib.Omega.{arith}
 use mathlib.Core.Path.{◌≡◌}
 use Prim.Native.Nat.{◌≤◌}

@@ -1,5 +1,4 @@
 -- `is_protected` meets its contract: the status of what was found decides.
-use borrow.Author.Rules.{rules}
 use Rattle.find.proofs.found.is_protected.Goals as goal
 
 pub returns-in-At : goal.returns-in-At

@@ -1,6 +1,5 @@
 -- `restate_found` meets its contract: what was found is what the meaning finds, and its status is the one write (`restated-at`); where nothing
 -- was found no word is written (`restated-none`).
-use borrow.Author.Rules.{rules}
 use native.Mathlib.Omega.{arith}
 use mathlib.Core.Path.{refl, sym, ◌∙◌}
 use Rattle.meaning.specs.Answers.{refuse}

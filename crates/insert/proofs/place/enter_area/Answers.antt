@@ -1,5 +1,4 @@
 -- `enter_area` meets its contract: the test of the slots is the meaning's, so each arm returns what the meaning asks.
-use borrow.Author.Rules.{rules}
 use native.Mathlib.Omega.{arith}
 use native.Mathlib.Nat.{div-le_self}
 use Rattle.insert.proofs.Placing.{count-is, fits_in, splittable, entered_whole, entered_split, spot-small}

@@ -1,5 +1,4 @@
 -- `half_position` meets its contract: its test is the meaning's, of which half has the area.
-use borrow.Author.Rules.{rules}
 use borrow.Author.Tests.{lt-ltb, le-ltb}
 use Rattle.insert.specs.Spots.{half_at}
 use Rattle.insert.proofs.place.half_position.Goals as goal

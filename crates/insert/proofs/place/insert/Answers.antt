@@ -1,5 +1,4 @@
 -- `insert` meets its contract: the part that is lent is the segment of the area, and what is made of it stands in its place.
-use borrow.Author.Rules.{rules}
 use mathlib.Core.Path.{sym}
 use Rattle.insert.proofs.Placing.{new-length, slot_of, count_of, room_of, unsplit-is}
 use Rattle.insert.proofs.place.insert.Goals as goal

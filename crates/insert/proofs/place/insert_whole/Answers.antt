@@ -1,5 +1,4 @@
 -- `insert_whole` meets its contract: the entries are one part of the segment's words, and the part has room.
-use borrow.Author.Rules.{rules}
 use native.Mathlib.Omega.{arith}
 use Rattle.insert.proofs.Halving.{counted_room, whole_asks, whole_is}
 use Rattle.insert.proofs.place.insert_whole.Goals as goal

@@ -1,5 +1,4 @@
 -- `split_and_insert` meets its contract: both halves are made of the directory as it was, and then put, one after the other.
-use borrow.Author.Rules.{rules}
 use native.Mathlib.Omega.{arith}
 use mathlib.Core.Path.{◌≡◌, sym, ◌∙◌}
 use Prim.Native.Nat.{◌+◌, ◌*◌, ◌≤◌}

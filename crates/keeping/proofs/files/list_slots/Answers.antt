@@ -1,13 +1,9 @@
 -- `list_slots` meets its contract: the loop keeps `Listing`, that the files in the table and those ahead are together all; its measure is the slots left.
-use borrow.Author.Rules.{rules}
 use native.Mathlib.Omega.{arith}
 use mathlib.Core.Path.{sym, ◌∙◌}
 use Prim.Native.Nat.{◌+◌, ◌*◌, ◌-◌, ◌≤◌}
-use mathlib.Core.List.{map, ◌++◌}
-use lib.ListN.{length, take}
-use Rattle.meaning.specs.Words.{slot_count}
-use Rattle.keeping.specs.Tables.{file_of}
-use Rattle.keeping.proofs.Listing.{files_ahead, Listing, listing, list_over, slot-inside, list-stop, list_on}
+use lib.ListN.{length}
+use Rattle.keeping.proofs.Listing.{listing, list_over, slot-inside, list-stop, list_on}
 use Rattle.keeping.proofs.files.list_slots.Goals.{In-loop-left, Start}
 use Rattle.keeping.proofs.files.list_slots.Goals as goal
 

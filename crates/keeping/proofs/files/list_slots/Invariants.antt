@@ -1,13 +1,10 @@
 -- `list_slots` meets its contract: the loop keeps `Listing`, that the files in the table and those ahead are together all; its measure is the slots left.
-use borrow.Author.Rules.{rules}
-use native.Mathlib.Omega.{arith}
-use mathlib.Core.Path.{sym, ◌∙◌}
-use Prim.Native.Nat.{◌+◌, ◌*◌, ◌-◌, ◌≤◌}
+use Prim.Native.Nat.{◌+◌, ◌-◌}
 use mathlib.Core.List.{map, ◌++◌}
 use lib.ListN.{length, take}
 use Rattle.meaning.specs.Words.{slot_count}
 use Rattle.keeping.specs.Tables.{file_of}
-use Rattle.keeping.proofs.Listing.{files_ahead, Listing, listing, list_over, slot-inside, list-stop, list_on}
+use Rattle.keeping.proofs.Listing.{files_ahead, Listing}
 use Rattle.keeping.proofs.files.list_slots.Given as goal
 
 abbrev pub invariant-loop-left : goal.invariant-loop-left

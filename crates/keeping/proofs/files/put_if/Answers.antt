@@ -1,5 +1,4 @@
 -- `put_if` meets its contract: a file's number stands behind the others, and any other status leaves the table.
-use borrow.Author.Rules.{rules}
 use mathlib.Core.Path.{refl, sym, ◌∙◌}
 use Rattle.keeping.proofs.files.put_if.Goals as goal
 

@@ -1,5 +1,4 @@
 -- `stops` meets its contract: the marker stops, and else an unreadable status.
-use borrow.Author.Rules.{rules}
 use mathlib.Core.Path.{sym, ◌∙◌}
 use Rattle.keeping.proofs.files.stops.Goals as goal
 

@@ -1,7 +1,4 @@
 -- `same_file` meets its contract: the first block, then the words that a file keeps, are compared, and the first that differs decides.
-use borrow.Author.Rules.{rules}
-use native.Mathlib.Omega.{arith}
-use borrow.Author.Tests.{not-true, not-false}
 use Rattle.keeping.proofs.Alike.{named_by, other_first, other_status, other_name, other_length, by_date}
 use Rattle.keeping.proofs.matching.same_file.Goals as goal
 

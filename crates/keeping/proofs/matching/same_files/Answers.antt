@@ -1,13 +1,8 @@
 -- `same_files` meets its contract: the loop keeps `Matching`, that what is left of both lists is the same as both were.
-use borrow.Author.Rules.{rules}
 use native.Mathlib.Omega.{arith}
-use borrow.Author.Tests.{not-true, not-false}
-use mathlib.Core.Path.{sym, ◌∙◌}
-use mathlib.Core.List.{map}
-use lib.ListN.{length}
+use mathlib.Core.Path.{sym}
 use Prim.Native.Nat.{◌-◌}
-use Rattle.keeping.specs.Tables.{file_of}
-use Rattle.keeping.proofs.Taking.{Matching, matching, unlike_length, match_over, match_none, match_on, file-fits}
+use Rattle.keeping.proofs.Taking.{matching, unlike_length, match_over, match_none, match_on, file-fits}
 use Rattle.keeping.proofs.matching.same_files.Goals as goal
 
 pub returns-then-files-table : goal.returns-then-files-table

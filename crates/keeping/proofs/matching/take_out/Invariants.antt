@@ -1,12 +1,8 @@
 -- `take_out` meets its contract: the loop keeps `Taking`, that with the first alike taken out of what is ahead the table is the same at each turn.
-use borrow.Author.Rules.{rules}
-use native.Mathlib.Omega.{arith}
-use mathlib.Core.Path.{sym, ◌∙◌}
-use mathlib.Core.Bool.{true≢false}
 use lib.ListN.{length}
 use Prim.Native.Nat.{◌-◌}
 use Rattle.keeping.specs.Tables.{Within, alike}
-use Rattle.keeping.proofs.Taking.{Taking, taking, taken_none, there-fits, here_found, here_taken, here-size, taken_on}
+use Rattle.keeping.proofs.Taking.{Taking}
 use Rattle.keeping.proofs.matching.take_out.Given as goal
 
 abbrev pub invariant-loop-i : goal.invariant-loop-i

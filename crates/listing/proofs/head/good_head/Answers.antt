@@ -1,5 +1,4 @@
 -- `good_head` meets its contract: each test that fails makes the meaning's conjunction false, and the last is what is left of it.
-use borrow.Author.Rules.{rules}
 use native.Mathlib.Omega.{arith}
 use Prim.Native.Nat.{◌+◌}
 use mathlib.Core.Path.{◌≡◌, sym, ◌∙◌}
@@ -7,7 +6,7 @@ use mathlib.Core.Bool.{true, ◌&&◌}
 use lib.ListN.{length, take}
 use lib.Dec.{leb}
 use lib.Seq.{length-take-le}
-use borrow.Author.Tests.{le-leb, lt-leb, eq-eqb, ne_eqb, not-true, not-false}
+use borrow.Author.Tests.{le-leb, lt-leb, eq-eqb, ne_eqb}
 use Rattle.names.specs.Text.{bytes, same_bytes}
 use Rattle.meaning.specs.Listing.{mark, word_at}
 use Rattle.listing.specs.Bounds.{good_head_of}

@@ -1,5 +1,4 @@
 -- `volume_in` meets its contract: V is the word at byte 5.
-use borrow.Author.Rules.{rules}
 use Rattle.meaning.specs.Listing.{volume_in}
 use Rattle.listing.proofs.head.volume_in.Goals as goal
 

@@ -1,5 +1,4 @@
 -- `word_at` meets its contract: two bytes below 256 make a word up to 65,535.
-use borrow.Author.Rules.{rules}
 use Prim.Native.Nat.{◌+◌, ◌<◌}
 use native.Mathlib.Omega.{arith}
 use mathlib.Core.Path.{refl}

@@ -1,9 +1,7 @@
 -- `load_words` meets its contract: the loop keeps that as many words as it has passed are loaded (laws `load_none`, `load_more`,
 -- `load_all`).
-use borrow.Author.Rules.{rules}
 use Prim.Native.Nat.{◌-◌}
-use native.Mathlib.Omega.{arith}
-use Rattle.listing.proofs.Loaded.{Loading, load_none, load_more, load_all}
+use Rattle.listing.proofs.Loaded.{Loading}
 use Rattle.listing.proofs.words.load_words.Given as goal
 
 abbrev pub invariant-loop-i : goal.invariant-loop-i

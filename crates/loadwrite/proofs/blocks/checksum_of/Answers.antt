@@ -1,5 +1,4 @@
 -- `checksum_of` meets its contract: it is `checksum` of the sum.
-use borrow.Author.Rules.{rules}
 use native.Mathlib.Omega.{arith}
 use Rattle.loads.specs.Writing.{checksum}
 use Rattle.loadwrite.proofs.blocks.checksum_of.Goals as goal

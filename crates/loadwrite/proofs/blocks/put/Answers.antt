@@ -1,5 +1,4 @@
 -- `put` meets its contract: a store is a write of one byte.
-use borrow.Author.Rules.{rules}
 use Rattle.lines.proofs.Writes.{one}
 use Rattle.loadwrite.proofs.blocks.put.Goals as goal
 

@@ -1,5 +1,4 @@
 -- `put_block` meets its contract: header and data are the body, which is what is summed, and its checksum comes last.
-use borrow.Author.Rules.{rules}
 use native.Mathlib.Omega.{arith}
 use Rattle.loads.specs.Memory.{bytes_at}
 use Rattle.loads.proofs.Bytes.{length-bytes}

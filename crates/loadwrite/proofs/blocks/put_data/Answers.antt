@@ -1,5 +1,4 @@
 -- `put_data` meets its contract: at an odd address the first byte goes by itself (laws `data_none`, `data_first`).
-use borrow.Author.Rules.{rules}
 use native.Mathlib.Omega.{arith}
 use Rattle.loadwrite.proofs.Parts.{data_none, data_first}
 use Rattle.loadwrite.proofs.blocks.put_data.Goals as goal

@@ -1,5 +1,4 @@
 -- `put_end` meets its contract: a header without data is the body, which is what is summed.
-use borrow.Author.Rules.{rules}
 use mathlib.Core.List.{[]}
 use Rattle.loadwrite.proofs.Parts.{end_body, a_block}
 use Rattle.loadwrite.proofs.blocks.put_end.Goals as goal

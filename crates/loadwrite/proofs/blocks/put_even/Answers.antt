@@ -1,10 +1,7 @@
 -- `put_even` meets its contract: the loop keeps that the first `i` bytes of the range are written, and that an even address comes next.
-use borrow.Author.Rules.{rules}
 use native.Mathlib.Omega.{arith}
-use mathlib.Core.Path.{◌≡◌, refl}
-use Prim.Native.Nat.{◌+◌, ◌-◌, ◌/◌, ◌%◌, ◌≤◌}
-use Rattle.lines.specs.Wrote.{Wrote}
-use Rattle.loads.specs.Memory.{bytes_at}
+use mathlib.Core.Path.{refl}
+use Prim.Native.Nat.{◌+◌, ◌-◌, ◌/◌}
 use Rattle.loadwrite.proofs.Parts.{no_data, data_more, data_two, all_data}
 use Rattle.loadwrite.proofs.blocks.put_even.Goals as goal
 

@@ -1,5 +1,4 @@
 -- `put_header` meets its contract: three 16-bit numbers, one after the other, the first of which is 1.
-use borrow.Author.Rules.{rules}
 use Rattle.lines.proofs.Writes.{both}
 use Rattle.loadwrite.proofs.blocks.put_header.Goals as goal
 

@@ -1,5 +1,4 @@
 -- `put_word` meets its contract: two writes, one after the other.
-use borrow.Author.Rules.{rules}
 use Rattle.lines.proofs.Writes.{both}
 use Rattle.loadwrite.proofs.blocks.put_word.Goals as goal
 

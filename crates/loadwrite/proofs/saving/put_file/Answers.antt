@@ -1,5 +1,4 @@
 -- `put_file` meets its contract: the three parts, one after the other, are the file; `file_size` has room for each.
-use borrow.Author.Rules.{rules}
 use native.Mathlib.Omega.{arith}
 use Prim.Native.Nat.{◌+◌, ◌*◌, ◌/◌}
 use Rattle.loadwrite.proofs.Files.{length-full, room-short, room-end, a_file}

@@ -1,11 +1,8 @@
 -- `put_full` meets its contract: the loop keeps that the first `i` blocks are written.
-use borrow.Author.Rules.{rules}
-use native.Mathlib.Omega.{arith}
 use mathlib.Core.Path.{◌≡◌}
 use Prim.Native.Nat.{◌+◌, ◌*◌, ◌-◌, ◌≤◌}
 use Rattle.lines.specs.Wrote.{Wrote}
 use Rattle.loads.specs.Writing.{full_blocks}
-use Rattle.loadwrite.proofs.Files.{length_data, no-full, full_more, all-full}
 use Rattle.loadwrite.proofs.saving.put_full.Given as goal
 
 abbrev pub invariant-loop-i : goal.invariant-loop-i

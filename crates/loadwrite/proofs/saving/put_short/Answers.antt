@@ -1,5 +1,4 @@
 -- `put_short` meets its contract: its test is that of `short_block`.
-use borrow.Author.Rules.{rules}
 use native.Mathlib.Omega.{arith}
 use Rattle.loadwrite.proofs.Files.{no_short, a_short}
 use Rattle.loadwrite.proofs.saving.put_short.Goals as goal

@@ -1,5 +1,4 @@
 -- `save` meets its contract: its tests are those of `save_answer`, the first made as two, of which neither can overflow.
-use borrow.Author.Rules.{rules}
 use native.Mathlib.Omega.{arith}
 use Rattle.loadwrite.proofs.Files.{outside, too_short_lem, saved}
 use Rattle.loadwrite.proofs.saving.save.Goals as goal

@@ -1,5 +1,4 @@
 -- `size_for` meets its contract: its test is that of `file_size`.
-use borrow.Author.Rules.{rules}
 use native.Mathlib.Omega.{arith}
 use borrow.Author.Tests.{eq-eqb, ne_eqb}
 use Rattle.loadwrite.specs.Sizes.{file_size}

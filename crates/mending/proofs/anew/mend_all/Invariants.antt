@@ -1,11 +1,7 @@
 -- `mend_all` meets its contract: the loop keeps `Mending`, and its measure is the segments left. A turn is `mends_on`, and `at-segment` has the
 -- bounds of the segment's place.
-use borrow.Author.Rules.{rules}
-use native.Mathlib.Omega.{arith}
-use Prim.Native.Nat.{◌+◌, ◌*◌, ◌-◌}
-use mathlib.Core.Path.{sym, ◌∙◌}
-use Rattle.chain.proofs.Links.{Next}
-use Rattle.mending.proofs.Onward.{Mending, mends, mended-over, at-segment, mends_on}
+use Prim.Native.Nat.{◌-◌}
+use Rattle.mending.proofs.Onward.{Mending}
 use Rattle.mending.proofs.anew.mend_all.Given as goal
 
 abbrev pub invariant-loop-left : goal.invariant-loop-left

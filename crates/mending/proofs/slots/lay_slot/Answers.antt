@@ -1,5 +1,4 @@
 -- `lay_slot` meets its contract: a file's slot stays (`file_laid`), any other has its status and its length set (`gap_laid`).
-use borrow.Author.Rules.{rules}
 use Prim.Native.Nat.{◌+◌}
 use native.Mathlib.Omega.{arith}
 use mathlib.Core.Path.{sym, ◌∙◌}

@@ -1,5 +1,4 @@
 -- `marks_here` meets its contract: the last slot decides, or else the marker, or else an unreadable status.
-use borrow.Author.Rules.{rules}
 use borrow.Author.Tests.{eq-eqb, ne_eqb}
 use mathlib.Core.Path.{refl, sym, ◌∙◌}
 use mathlib.Core.Bool.{or-true, or-false}

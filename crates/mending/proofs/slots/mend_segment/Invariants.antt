@@ -1,12 +1,5 @@
 -- `mend_segment` meets its contract: the loop keeps `Passing`, and its measure is the slots left. Each way through a turn is a law of Passing.antt.
-use borrow.Author.Rules.{rules}
-use native.Mathlib.Omega.{arith}
-use Prim.Native.Nat.{◌+◌, ◌≤◌}
-use mathlib.Core.Path.{◌≡◌, sym, ◌∙◌}
-use lib.ListN.{length, length-set}
-use Rattle.meaning.specs.Kinds.{end_status}
-use Rattle.walks.proofs.Slots.{most-slots}
-use Rattle.mending.proofs.Passing.{Passing, passing, pass_over, pass_long, pass_room, pass_stop, pass_on}
+use Rattle.mending.proofs.Passing.{Passing}
 use Rattle.mending.proofs.slots.mend_segment.Given as goal
 
 abbrev pub invariant-loop-left : goal.invariant-loop-left

@@ -1,5 +1,4 @@
 -- `next_first` meets its contract: a return for each case of the next first block.
-use borrow.Author.Rules.{rules}
 use native.Mathlib.Omega.{arith}
 use Rattle.mending.proofs.Nexts.{next-none, next_far, next_near}
 use Rattle.mending.proofs.slots.next_first.Goals as goal

@@ -1,12 +1,7 @@
 -- `pack_chain` meets its contract: the loop keeps `Renewing`, and its measure is the segments left. A turn is `renews_on`, and `at-segment` has the
 -- bounds of the segment's place.
-use borrow.Author.Rules.{rules}
-use native.Mathlib.Omega.{arith}
-use Prim.Native.Nat.{◌+◌, ◌*◌, ◌-◌, ◌≤◌}
-use lib.ListN.{length}
-use Rattle.rules.proofs.Rule5.{rule1-holds}
-use Rattle.rules.proofs.Soundness.{Sound, sound}
-use Rattle.packing.proofs.Chains.{Renewing, renews, at-segment, packable, renews_on, renewed_all}
+use Prim.Native.Nat.{◌-◌}
+use Rattle.packing.proofs.Chains.{Renewing}
 use Rattle.packing.proofs.anew.pack_chain.Given as goal
 
 abbrev pub invariant-loop-left : goal.invariant-loop-left

@@ -1,6 +1,5 @@
 -- `pack_segment` meets its contract: four writes into zeros, and all of it copied back, are the rendered segment (`segment-made`); the list is as the
 -- walk over the entries has left it.
-use borrow.Author.Rules.{rules}
 use native.Mathlib.Omega.{arith}
 use lib.ListN.{length-take}
 use Rattle.packing.specs.Anew.{Packable}

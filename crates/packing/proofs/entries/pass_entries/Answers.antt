@@ -1,12 +1,11 @@
 -- `pass_entries` meets its contract: for the segment's words and for the list the loop keeps `Walking`, that what is written so far, with the
 -- words of the entries ahead, is what all make; its measure is the slots left.
-use borrow.Author.Rules.{rules}
 use native.Mathlib.Omega.{arith}
 use mathlib.Core.Path.{◌≡◌, sym, ◌∙◌}
 use Prim.Native.Nat.{◌+◌, ◌≤◌}
 use lib.ListN.{length}
-use Rattle.packing.specs.Packs.{packed_words, list_words, Slotted}
-use Rattle.packing.proofs.Walks.{Walking, walking, walk_over, walk_end, walk_slot, walk_high, walk_room, walk_next}
+use Rattle.packing.specs.Packs.{Slotted}
+use Rattle.packing.proofs.Walks.{walking, walk_over, walk_end, walk_slot, walk_high, walk_room, walk_next}
 use Rattle.packing.proofs.Outs.{packed_stepwise, list_stepwise}
 use Rattle.packing.proofs.entries.pass_entries.Goals.{In-loop-left, Start}
 use Rattle.packing.proofs.entries.pass_entries.Goals as goal

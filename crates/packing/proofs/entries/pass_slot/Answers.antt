@@ -1,8 +1,6 @@
 -- `pass_slot` meets its contract: nothing is written, or what is left over and the slot, which are one write (`file-made`), and the file's move
 -- (`moves_so`).
-use borrow.Author.Rules.{rules}
 use native.Mathlib.Omega.{arith}
-use borrow.Author.Tests.{not-true, not-false}
 use mathlib.Core.Path.{◌≡◌, sym, ◌∙◌}
 use mathlib.Core.Bool.{true}
 use Prim.Native.Nat.{◌+◌}

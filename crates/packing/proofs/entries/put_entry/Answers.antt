@@ -1,5 +1,4 @@
 -- `put_entry` meets its contract: seven writes of a word each, and the extra words behind them, are one write of the slot (`entry-made`).
-use borrow.Author.Rules.{rules}
 use native.Mathlib.Omega.{arith}
 use mathlib.Core.Path.{◌∙◌}
 use lib.ListN.{length-set}

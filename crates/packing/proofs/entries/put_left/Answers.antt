@@ -1,5 +1,4 @@
 -- `put_left` meets its contract: the array begins with the words of the empty entry, and where nothing is left over none are written.
-use borrow.Author.Rules.{rules}
 use mathlib.Core.Path.{sym}
 use Prim.Native.Nat.{◌-◌}
 use Rattle.segment.proofs.Writes.{none_written}

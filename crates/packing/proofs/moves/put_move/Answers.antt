@@ -1,5 +1,4 @@
 -- `put_move` meets its contract: nothing is written where no move is needed, else the array's three words.
-use borrow.Author.Rules.{rules}
 use Rattle.segment.proofs.Writes.{none_written}
 use Rattle.packing.proofs.Outs.{move-there, move-nothing, move_some}
 use Rattle.packing.proofs.moves.put_move.Goals as goal

@@ -1,5 +1,4 @@
 -- `count_kept` meets its contract: a return for no half, one for a last entry that is tentative, and one for any other.
-use borrow.Author.Rules.{rules}
 use native.Mathlib.Omega.{arith}
 use mathlib.Core.Path.{sym, ◌∙◌}
 use Rattle.render.proofs.Counting.{kept-none, kept-one, kept_half, last-room}

@@ -3,7 +3,7 @@ use native.Mathlib.Omega.{arith}
 use lib.ListN.{drop}
 use Prim.Native.Nat.{◌+◌, ◌≤◌}
 use Rattle.walks.proofs.Slots.{mul_less}
-use Rattle.render.proofs.Counting.{Summing, summing, total_more, total-none}
+use Rattle.render.proofs.Counting.{summing, total_more, total-none}
 use Rattle.render.proofs.measure.sum_lengths.Goals.{In-loop-left}
 use Rattle.render.proofs.measure.sum_lengths.Goals as goal
 

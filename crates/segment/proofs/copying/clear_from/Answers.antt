@@ -1,8 +1,7 @@
 -- `clear_from` meets its contract. The loop's invariant: the words from `start` to `i` are 0, and all others as they were.
 use native.Mathlib.Omega.{arith}
-use Prim.Native.Nat.{◌-◌, ◌≤◌, ◌<◌}
-use lib.ListN.{length, replicate}
-use Rattle.segment.specs.Written.{Written}
+use Prim.Native.Nat.{◌-◌, ◌<◌}
+use lib.ListN.{length}
 use Rattle.segment.proofs.Moves.{cleared_none, cleared_more, cleared_all}
 use Rattle.segment.proofs.copying.clear_from.Goals as goal
 

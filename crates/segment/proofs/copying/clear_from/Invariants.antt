@@ -1,9 +1,7 @@
 -- `clear_from` meets its contract. The loop's invariant: the words from `start` to `i` are 0, and all others as they were.
-use native.Mathlib.Omega.{arith}
-use Prim.Native.Nat.{◌-◌, ◌≤◌, ◌<◌}
+use Prim.Native.Nat.{◌-◌, ◌≤◌}
 use lib.ListN.{length, replicate}
 use Rattle.segment.specs.Written.{Written}
-use Rattle.segment.proofs.Moves.{cleared_none, cleared_more, cleared_all}
 use Rattle.segment.proofs.copying.clear_from.Given as goal
 
 abbrev pub invariant-loop-i : goal.invariant-loop-i

@@ -1,10 +1,9 @@
 -- `copy_words` meets its contract. The loop's invariant: the words before `i` are copied, and the target's others as they were.
-use borrow.Author.Rules.{rules}
 use native.Mathlib.Omega.{arith}
-use mathlib.Core.Path.{◌≡◌, refl, ◌∙◌}
-use Prim.Native.Nat.{◌+◌, ◌-◌, ◌≤◌}
-use lib.ListN.{length, length-set}
-use lib.Seq.{paste, paste-zero}
+use mathlib.Core.Path.{refl, ◌∙◌}
+use Prim.Native.Nat.{◌+◌, ◌-◌}
+use lib.ListN.{length-set}
+use lib.Seq.{paste-zero}
 use Rattle.segment.proofs.Writes.{copied_more, copied_all}
 use Rattle.segment.proofs.copying.copy_words.Goals as goal
 

@@ -1,11 +1,7 @@
 -- `move_up` meets its contract. The loop's invariant: the words from `i` on are moved, and all others as they were.
-use borrow.Author.Rules.{rules}
-use native.Mathlib.Omega.{arith}
-use mathlib.Core.Path.{◌≡◌}
 use Prim.Native.Nat.{◌+◌, ◌-◌, ◌≤◌}
 use lib.ListN.{take, drop}
 use Rattle.segment.specs.Written.{Written}
-use Rattle.segment.proofs.Moves.{moved_none, moved_more}
 use Rattle.segment.proofs.copying.move_up.Given as goal
 
 abbrev pub invariant-loop-i : goal.invariant-loop-i

@@ -1,5 +1,4 @@
 -- `put_words` meets its contract: a copy is a write of what is copied (`pasted`).
-use borrow.Author.Rules.{rules}
 use Rattle.segment.proofs.Writes.{pasted}
 use Rattle.segment.proofs.copying.put_words.Goals as goal
 

@@ -2,10 +2,9 @@
 -- the slots left.
 use native.Mathlib.Omega.{arith}
 use mathlib.Core.Path.{sym, ◌∙◌}
-use borrow.Author.Rules.{rules}
 use Prim.Native.Nat.{◌+◌, ◌≤◌}
 use Rattle.walks.proofs.Slots.{mul_less}
-use Rattle.segment.proofs.Ahead.{few-slots, Counting, counting, count_end, count_next, count_over}
+use Rattle.segment.proofs.Ahead.{few-slots, counting, count_end, count_next, count_over}
 use Rattle.segment.proofs.count.count_entries.Goals.{In-loop-left}
 use Rattle.segment.proofs.count.count_entries.Goals as goal
 

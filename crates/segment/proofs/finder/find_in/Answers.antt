@@ -1,11 +1,10 @@
 -- `find_in` meets its contract: the loop keeps `Searching`, that what is found in the slots still ahead is what is found in all,
 -- and its measure is the slots left. The body ends at the marker, ends at a hit, or passes a slot by, with a law for each.
-use borrow.Author.Rules.{rules}
 use Prim.Native.Nat.{◌+◌, ◌≤◌}
 use native.Mathlib.Nat.{div-le_self}
 use native.Mathlib.Omega.{arith}
 use mathlib.Core.Path.{sym, ◌∙◌}
-use Rattle.segment.proofs.Searching.{Searching, starts, fits, block-small, ends, hits, passes, none_left}
+use Rattle.segment.proofs.Searching.{starts, fits, block-small, ends, hits, passes, none_left}
 use Rattle.segment.proofs.finder.find_in.Goals.{In-loop-left}
 use Rattle.segment.proofs.finder.find_in.Goals as goal
 

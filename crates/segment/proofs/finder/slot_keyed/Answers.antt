@@ -1,8 +1,6 @@
 -- `slot_keyed` meets its contract: of the two tests that a key takes the first that fails decides, with a law for each way through.
-use borrow.Author.Rules.{rules}
 use native.Mathlib.Omega.{arith}
 use mathlib.Core.Path.{sym, ◌∙◌}
-use borrow.Author.Tests.{not-true, not-false}
 use Rattle.segment.proofs.Searching.{other_name, of_name, not_open, is_open_lem}
 use Rattle.segment.proofs.finder.slot_keyed.Goals as goal
 

@@ -1,5 +1,4 @@
 -- `is_unreadable` meets its contract: a kind that a test tells is known, and after three tests that of the marker decides.
-use borrow.Author.Rules.{rules}
 use mathlib.Core.Path.{sym, ap, ◌∙◌}
 use mathlib.Core.Bool.{not}
 use Rattle.meaning.specs.Kinds.{kind_of, is_unknown}

@@ -1,5 +1,4 @@
 -- `kind_of` meets its contract: the first test that holds tells the kind, and what none tells is unknown.
-use borrow.Author.Rules.{rules}
 use mathlib.Core.Path.{sym, ◌∙◌}
 use Rattle.walks.proofs.Told.{permanent-kind, empty-kind, tentative-kind, end-kind, no_kind}
 use Rattle.segment.proofs.kinds.kind_of.Goals as goal

@@ -1,5 +1,4 @@
 -- `is_named` meets its contract: the words read are the slot's own, the first of them that differs makes it false, and the last decides.
-use borrow.Author.Rules.{rules}
 use native.Mathlib.Omega.{arith}
 use borrow.Author.Tests.{eq-eqb, ne_eqb}
 use Rattle.segment.proofs.Named.{same-words}

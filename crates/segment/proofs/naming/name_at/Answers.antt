@@ -1,5 +1,4 @@
 -- `name_at` meets its contract: the words read are the slot's own, and the slot has all that are read.
-use borrow.Author.Rules.{rules}
 use native.Mathlib.Omega.{arith}
 use Rattle.segment.proofs.Named.{name-words}
 use Rattle.segment.proofs.naming.name_at.Goals as goal

@@ -1,5 +1,4 @@
 -- `named_step` meets its contract: each test decides one part of `named_step`.
-use borrow.Author.Rules.{rules}
 use mathlib.Core.Path.{sym, ◌∙◌}
 use Rattle.segment.proofs.scan.named_step.Goals as goal
 

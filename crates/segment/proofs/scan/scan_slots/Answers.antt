@@ -1,11 +1,10 @@
 -- `scan_slots` meets its contract: the loop keeps `Scanning`, that the slots still ahead give what all slots give, and its
 -- measure is the slots left. Each way through the body is one case of `turn`.
-use borrow.Author.Rules.{rules}
 use native.Mathlib.Omega.{arith}
 use mathlib.Core.Path.{sym, ◌∙◌}
 use native.Mathlib.Nat.{div-le_self}
 use Rattle.walks.proofs.Slots.{mul_less}
-use Rattle.segment.proofs.Scanning.{Scanning, starts, turn, no-slots, bounded}
+use Rattle.segment.proofs.Scanning.{starts, turn, no-slots, bounded}
 use Rattle.segment.specs.declared.scan.Step.TheVariants.{Bad, Marker, Next}
 use Rattle.segment.proofs.scan.scan_slots.Goals as goal
 

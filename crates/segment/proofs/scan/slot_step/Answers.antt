@@ -1,5 +1,4 @@
 -- `slot_step` meets its contract: the words read are the slot's own (`step_words`), and the slot has all that are read.
-use borrow.Author.Rules.{rules}
 use mathlib.Core.Path.{sym}
 use native.Mathlib.Omega.{arith}
 use Rattle.segment.proofs.Scanning.{step_words}

@@ -1,5 +1,4 @@
 -- `step_by` meets its contract: the first test that holds tells the kind, and then the step is that kind's.
-use borrow.Author.Rules.{rules}
 use mathlib.Core.Path.{◌≡◌, sym, ◌∙◌}
 use mathlib.Core.Bool.{false}
 use Rattle.meaning.specs.Kinds.{kind_of, is_permanent, is_empty, is_tentative}

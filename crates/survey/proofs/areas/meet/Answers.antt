@@ -1,5 +1,4 @@
 -- `meet` meets its contract, in both cases of its test.
-use borrow.Author.Rules.{rules}
 use mathlib.Core.Path.{sym, ◌∙◌}
 use Rattle.survey.specs.Surveyed.{met}
 use Rattle.survey.proofs.areas.meet.Goals as goal

@@ -1,6 +1,4 @@
 -- `note` meets its contract: each way through it is one law of `Noted`.
-use borrow.Author.Rules.{rules}
-use borrow.Author.Tests.{not-true, not-false}
 use Rattle.survey.proofs.Noted.{note_passed, note_longest, note_second}
 use Rattle.survey.proofs.areas.note.Goals as goal
 

@@ -1,5 +1,4 @@
 -- `settle` meets its contract: each return is one case of the run.
-use borrow.Author.Rules.{rules}
 use mathlib.Core.Path.{sym, ◌∙◌}
 use Rattle.survey.proofs.areas.settle.Goals as goal
 

@@ -1,10 +1,7 @@
 -- `survey_areas` meets its contract: the loop keeps `Visiting`, that what is found so far with the segments ahead is what is found in
 -- all, and its measure is the segments left.
-use borrow.Author.Rules.{rules}
-use native.Mathlib.Omega.{arith}
-use Prim.Native.Nat.{◌+◌, ◌*◌, ◌-◌}
-use Rattle.chain.proofs.Links.{Next, next}
-use Rattle.survey.proofs.Along.{Visiting, starts, all-surveyed, ready, one-surveyed}
+use Prim.Native.Nat.{◌-◌}
+use Rattle.survey.proofs.Along.{Visiting}
 use Rattle.survey.proofs.areas.survey_areas.Given as goal
 
 abbrev pub invariant-loop-left : goal.invariant-loop-left

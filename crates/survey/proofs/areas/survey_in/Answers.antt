@@ -1,11 +1,10 @@
 -- `survey_in` meets its contract: the loop keeps `Surveying`, that the survey so far with the entries ahead is the survey of all, and
 -- its measure is the slots left.
 use native.Mathlib.Omega.{arith}
-use borrow.Author.Rules.{rules}
 use mathlib.Core.Path.{sym, ◌∙◌}
 use Prim.Native.Nat.{◌+◌, ◌≤◌}
 use Rattle.walks.proofs.Slots.{mul_less}
-use Rattle.survey.proofs.Walking.{sum_fits, Surveying, surveying, surveyed-over, surveyed-end, survey-on}
+use Rattle.survey.proofs.Walking.{sum_fits, surveying, surveyed-over, surveyed-end, survey-on}
 use Rattle.survey.proofs.areas.survey_in.Goals.{In-loop-left}
 use Rattle.survey.proofs.areas.survey_in.Goals as goal
 

@@ -1,7 +1,5 @@
 -- `survey_segment` meets its contract: without an area the survey stays (`found_none`), and else its entries are met (`found_some`).
-use borrow.Author.Rules.{rules}
 use mathlib.Core.Path.{sym, ◌∙◌}
-use borrow.Author.Tests.{not-true}
 use Rattle.meaning.specs.Words.{slots, upto}
 use Rattle.survey.proofs.Along.{found_none, found_some}
 use Rattle.survey.proofs.areas.survey_segment.Goals as goal

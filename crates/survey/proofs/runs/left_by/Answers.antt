@@ -1,5 +1,4 @@
 -- `left_by` meets its contract: each return is one case of the run.
-use borrow.Author.Rules.{rules}
 use native.Mathlib.Omega.{arith}
 use mathlib.Core.Path.{sym, ◌∙◌}
 use Rattle.survey.proofs.runs.left_by.Goals as goal

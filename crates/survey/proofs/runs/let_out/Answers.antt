@@ -1,5 +1,4 @@
 -- `let_out` meets its contract, in both cases of its test.
-use borrow.Author.Rules.{rules}
 use native.Mathlib.Omega.{arith}
 use mathlib.Core.Path.{sym, ◌∙◌}
 use Rattle.survey.specs.Runs.{lets}

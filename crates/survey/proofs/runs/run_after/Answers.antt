@@ -1,8 +1,6 @@
 -- `run_after` meets its contract: each return is one case of `after`.
-use borrow.Author.Rules.{rules}
 use native.Mathlib.Omega.{arith}
 use mathlib.Core.Path.{sym, ap, ◌∙◌}
-use borrow.Author.Tests.{not-true, not-false}
 use Rattle.survey.specs.Runs.{after}
 use Rattle.survey.specs.declared.runs.OpenRun.TheVariants.{Calm}
 use Rattle.survey.proofs.runs.run_after.Goals as goal

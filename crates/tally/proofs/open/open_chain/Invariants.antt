@@ -1,12 +1,6 @@
 -- `open_chain` meets its contract: the loop keeps `Seeking`, that the segments ahead have a tentative entry exactly where all have, and its
 -- measure is the segments left. Right links keep it inside the slice.
-use borrow.Author.Rules.{rules}
-use native.Mathlib.Omega.{arith}
-use Prim.Native.Nat.{◌+◌}
-use lib.ListN.{length-take, length-drop}
-use Rattle.walks.proofs.Words.{base}
-use Rattle.chain.proofs.Links.{Next, next}
-use Rattle.tally.proofs.Opens.{Seeking, seeking, none_open, open_here, seek-on}
+use Rattle.tally.proofs.Opens.{Seeking}
 use Rattle.tally.proofs.open.open_chain.Given as goal
 
 abbrev pub invariant-loop-left : goal.invariant-loop-left

@@ -1,12 +1,9 @@
 -- `open_in` meets its contract: the loop keeps `Looking`, that what is found among the entries ahead is what is found among all, and its
 -- measure is the slots left. The test asks nothing of the entry before (`any-before`).
-use borrow.Author.Rules.{rules}
 use native.Mathlib.Omega.{arith}
 use mathlib.Core.Path.{sym, ◌∙◌}
 use Prim.Native.Nat.{◌+◌, ◌≤◌}
-use Rattle.meaning.specs.Words.{slots, upto}
-use Rattle.segment.proofs.Looking.{Looking, looking, look_over, look_fits, look_end, look_found, look_on}
-use Rattle.tally.specs.Surveyed.{any_open}
+use Rattle.segment.proofs.Looking.{looking, look_over, look_fits, look_end, look_found, look_on}
 use Rattle.tally.proofs.Opens.{open_test, open_found, any-before}
 use Rattle.tally.proofs.open.open_in.Goals.{In-loop-left}
 use Rattle.tally.proofs.open.open_in.Goals as goal

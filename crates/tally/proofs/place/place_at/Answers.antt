@@ -1,5 +1,4 @@
 -- `place_at` meets its contract: the test of the name decides (`place-made`).
-use borrow.Author.Rules.{rules}
 use mathlib.Core.Path.{sym, ◌∙◌}
 use Rattle.tally.proofs.Places.{place-made}
 use Rattle.tally.proofs.place.place_at.Goals as goal

@@ -1,5 +1,4 @@
 -- `is_over` meets its contract: a return for each way of its test.
-use borrow.Author.Rules.{rules}
 use Rattle.tally.proofs.survey.is_over.Goals as goal
 
 pub returns : goal.returns

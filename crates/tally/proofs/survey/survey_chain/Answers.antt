@@ -1,6 +1,5 @@
 -- `survey_chain` meets its contract: the loop keeps `Surveying`, that the moves and the overfull segments so far, with those of the segments
 -- ahead, are all, and its measure is the segments left. The way along the chain keeps it inside the slice (`at-segment`).
-use borrow.Author.Rules.{rules}
 use native.Mathlib.Omega.{arith}
 use Prim.Native.Nat.{◌+◌, ◌*◌, ◌≤◌}
 use lib.ListN.{length}
@@ -8,7 +7,7 @@ use Rattle.walks.proofs.Words.{base}
 use Rattle.rules.specs.Sound.{Rule1}
 use Rattle.rules.proofs.Rule5.{rule1-holds}
 use Rattle.rules.proofs.Soundness.{Sound, sound}
-use Rattle.tally.proofs.Surveys.{Surveying, survey_starts, survey-over, at-segment, surveyable, survey-next}
+use Rattle.tally.proofs.Surveys.{survey_starts, survey-over, at-segment, surveyable, survey-next}
 use Rattle.tally.proofs.survey.survey_chain.Goals.{In-loop-left, Start}
 use Rattle.tally.proofs.survey.survey_chain.Goals as goal
 

@@ -1,6 +1,5 @@
 -- `survey_segment` meets its contract: the tally counts what the meaning has (`survey-made`). A slot is always there for the marker, and an entry
 -- at most is added for the last area, so that no difference or sum wraps.
-use borrow.Author.Rules.{rules}
 use native.Mathlib.Omega.{arith}
 use Rattle.segment.proofs.Ahead.{some-slot}
 use Rattle.tally.proofs.Counts.{tallyable, survey-made, last-small}

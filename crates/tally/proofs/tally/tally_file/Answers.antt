@@ -1,6 +1,5 @@
 -- `tally_file` meets its contract: its counts are those of its two callees. One move at most and two entries at most are added, so that no
 -- sum wraps (`move-small`, `entry-small`).
-use borrow.Author.Rules.{rules}
 use native.Mathlib.Omega.{arith}
 use Rattle.tally.proofs.Tallies.{move-small, entry-small}
 use Rattle.tally.proofs.tally.tally_file.Goals as goal

@@ -1,10 +1,6 @@
 -- `tally_segment` meets its contract: the loop keeps `Tallying`, that the tally of the entries ahead, from what is counted so far, is that of
 -- all, and its measure is the slots left. A turn ends at the marker (`tally_end`) or counts a slot more (`tally_next`).
-use borrow.Author.Rules.{rules}
-use native.Mathlib.Omega.{arith}
-use mathlib.Core.Path.{sym, ◌∙◌}
-use Prim.Native.Nat.{◌+◌, ◌≤◌}
-use Rattle.tally.proofs.Tallies.{Tallying, tallying, tally_over, tally_fits, tally_end, tally_high, tally_next}
+use Rattle.tally.proofs.Tallies.{Tallying}
 use Rattle.tally.proofs.tally.tally_segment.Given as goal
 
 abbrev pub invariant-loop-left : goal.invariant-loop-left

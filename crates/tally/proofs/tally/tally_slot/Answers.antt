@@ -1,7 +1,5 @@
 -- `tally_slot` meets its contract: past an entry that is no file nothing is counted (`tally_past`), and a file is counted at the place where it
 -- goes (`tally_made`), which lies no higher than where it stands.
-use borrow.Author.Rules.{rules}
-use borrow.Author.Tests.{not-true, not-false}
 use native.Mathlib.Omega.{arith}
 use mathlib.Core.Path.{sym, ◌∙◌}
 use lib.ListN.{take, drop}

@@ -1,5 +1,4 @@
 -- `copy_slot` meets its contract: the part that is copied is the slot (`slot-written`).
-use borrow.Author.Rules.{rules}
 use native.Mathlib.Omega.{arith}
 use Rattle.segment.proofs.Writes.{slot-written}
 use Rattle.tidy.proofs.tidy.copy_slot.Goals as goal

@@ -1,5 +1,4 @@
 -- `finish` meets its contract: the run is written, and the marker has room after it (`marked`).
-use borrow.Author.Rules.{rules}
 use native.Mathlib.Omega.{arith}
 use Rattle.tidy.proofs.Runs.{marked}
 use Rattle.tidy.proofs.tidy.finish.Goals as goal

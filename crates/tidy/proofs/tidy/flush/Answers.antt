@@ -1,6 +1,5 @@
 -- `flush` meets its contract: a law for each case of the run. An open run's entry has room, since the next write is behind the
 -- next read by a slot (`behind`).
-use borrow.Author.Rules.{rules}
 use native.Mathlib.Omega.{arith}
 use Rattle.tidy.proofs.Runs.{calm-left, zero_left, held-left, some_left, behind}
 use Rattle.tidy.proofs.tidy.flush.Goals as goal

@@ -1,6 +1,5 @@
 -- `pass_slot` meets its contract: an empty entry lets nothing out (`area-out`), and any other the run and then itself
 -- (`other_out`), for which there is room, since the run ends behind the slot (`left-bound`).
-use borrow.Author.Rules.{rules}
 use native.Mathlib.Omega.{arith}
 use mathlib.Core.Path.{sym, ◌∙◌}
 use Rattle.tidy.proofs.Runs.{placed-last, left-bound, area-out, other_out}

@@ -1,5 +1,4 @@
 -- `put_run` meets its contract: the slot is written, and then its length word is set (`set-written`).
-use borrow.Author.Rules.{rules}
 use native.Mathlib.Omega.{arith}
 use lib.ListN.{length, take, drop, length-take, length-drop}
 use Prim.Native.Nat.{◌<◌}

@@ -1,8 +1,6 @@
 -- `run_after` meets its contract: each return is one case of `run_after`.
-use borrow.Author.Rules.{rules}
 use native.Mathlib.Omega.{arith}
 use mathlib.Core.Path.{sym, ap, ◌∙◌}
-use borrow.Author.Tests.{not-true, not-false}
 use Rattle.tidy.specs.OpenRun.{run_after}
 use Rattle.tidy.specs.declared.tidy.RunAt.TheVariants.{Calm}
 use Rattle.tidy.proofs.Runs.{sum-within}

@@ -1,10 +1,9 @@
 -- `tidy_all` meets its contract: the loop keeps `Going`, and its measure is the segments left. A turn is `goes_on_lem`, and `here` has
 -- the bounds of the segment's place.
-use borrow.Author.Rules.{rules}
 use native.Mathlib.Omega.{arith}
 use Prim.Native.Nat.{◌+◌, ◌*◌, ◌-◌, ◌≤◌}
 use lib.ListN.{length}
-use Rattle.tidy.proofs.Following.{Going, starts, here, tidyable, goes_on_lem, ends}
+use Rattle.tidy.proofs.Following.{starts, here, tidyable, goes_on_lem, ends}
 use Rattle.tidy.proofs.tidy.tidy_all.Goals.{In-loop-left, Start}
 use Rattle.tidy.proofs.tidy.tidy_all.Goals as goal
 

@@ -1,10 +1,7 @@
 -- `tidy_all` meets its contract: the loop keeps `Going`, and its measure is the segments left. A turn is `goes_on_lem`, and `here` has
 -- the bounds of the segment's place.
-use borrow.Author.Rules.{rules}
-use native.Mathlib.Omega.{arith}
-use Prim.Native.Nat.{◌+◌, ◌*◌, ◌-◌, ◌≤◌}
-use lib.ListN.{length}
-use Rattle.tidy.proofs.Following.{Going, starts, here, tidyable, goes_on_lem, ends}
+use Prim.Native.Nat.{◌-◌}
+use Rattle.tidy.proofs.Following.{Going}
 use Rattle.tidy.proofs.tidy.tidy_all.Given as goal
 
 abbrev pub invariant-loop-left : goal.invariant-loop-left

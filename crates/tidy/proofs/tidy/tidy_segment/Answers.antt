@@ -1,8 +1,6 @@
 -- `tidy_segment` meets its contract: what is not untidy stays, and what is becomes the rendered segment, copied back.
-use borrow.Author.Rules.{rules}
 use native.Mathlib.Omega.{arith}
 use mathlib.Core.Path.{sym, ◌∙◌}
-use borrow.Author.Tests.{not-true, not-false}
 use lib.ListN.{length-take}
 use Rattle.tidy.proofs.Anew.{stays, changed}
 use Rattle.tidy.proofs.tidy.tidy_segment.Goals as goal

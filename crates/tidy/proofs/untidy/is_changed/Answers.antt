@@ -1,7 +1,6 @@
 -- `is_changed` meets its contract: its tests are those of `changes`, in the same order.
-use borrow.Author.Rules.{rules}
 use mathlib.Core.Path.{sym, ◌∙◌}
-use borrow.Author.Tests.{not-true, not-false, eq-eqb, ne_eqb}
+use borrow.Author.Tests.{eq-eqb, ne_eqb}
 use Rattle.tidy.specs.Changes.{changes}
 use Rattle.tidy.proofs.untidy.is_changed.Goals as goal
 

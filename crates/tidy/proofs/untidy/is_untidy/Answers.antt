@@ -1,12 +1,9 @@
 -- `is_untidy` meets its contract: the loop keeps `Looking`, that what is found among the entries ahead is what is found among all,
 -- and its measure is the slots left.
-use borrow.Author.Rules.{rules}
 use native.Mathlib.Omega.{arith}
 use mathlib.Core.Path.{sym, ◌∙◌}
 use Prim.Native.Nat.{◌+◌, ◌≤◌}
-use Rattle.meaning.specs.Words.{slots, upto}
-use Rattle.meaning.specs.Enter.{untidy}
-use Rattle.segment.proofs.Looking.{Looking, looking, look_over, look_fits, look_end, look_found, look_on}
+use Rattle.segment.proofs.Looking.{looking, look_over, look_fits, look_end, look_found, look_on}
 use Rattle.tidy.specs.Changes.{changes}
 use Rattle.tidy.proofs.Looking.{untidy-found}
 use Rattle.tidy.proofs.untidy.is_untidy.Goals.{In-loop-left}
