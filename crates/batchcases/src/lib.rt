@@ -5,10 +5,10 @@ ghost use Rattle.std.specs.Prelude.{◌≡◌, ◌≤◌, length};
 ghost use Rattle.cases.specs.Runs.{Follows};
 
 use batch::{Part, run_some};
-use cases::Why;
 use cases::input::{is_request, read_bytes, request_at, word_at};
 use cases::output::{check_of, numbers_of, write_line};
 use cases::state::{State, refused};
+use cases::{Console, Why};
 use meaning::{Answer, Request};
 
 // Room for eight requests of 28 bytes.
@@ -51,7 +51,7 @@ fn no_answers() -> [Answer; 8] {
 }
 
 // One answer of a batch, without a check.
-fn write_one(rt: &(impl Print + Eprint), state: State, answer: Answer) -> State
+fn write_one(rt: &impl Console, state: State, answer: Answer) -> State
     ensures { Follows state result }
 {
     let numbers = numbers_of(answer, 0);
@@ -60,12 +60,7 @@ fn write_one(rt: &(impl Print + Eprint), state: State, answer: Answer) -> State
 }
 
 // The first answers of a batch, so many.
-fn write_answers(
-    rt: &(impl Print + Eprint),
-    start: State,
-    answers: [Answer; 8],
-    count: usize,
-) -> State
+fn write_answers(rt: &impl Console, start: State, answers: [Answer; 8], count: usize) -> State
     requires { count ≤ 8 }
     ensures { Follows start result }
 {
@@ -82,13 +77,7 @@ fn write_answers(
 }
 
 // A batch's number and the check over the directory as it now stands; its answers, where the number is 0.
-fn write_batch(
-    rt: &(impl Print + Eprint),
-    words: &[u16],
-    state: State,
-    part: Part,
-    count: usize,
-) -> State
+fn write_batch(rt: &impl Console, words: &[u16], state: State, part: Part, count: usize) -> State
     requires { count ≤ 8 }
     ensures { Follows state result }
 {
@@ -103,7 +92,7 @@ fn write_batch(
 
 // The batch on the present directory, and its lines.
 fn serve_batch(
-    rt: &(impl Print + Eprint),
+    rt: &impl Console,
     d: &mut [u16],
     state: State,
     bytes: &[u8],
@@ -126,13 +115,7 @@ fn serve_batch(
 }
 
 // So many requests, with room for so many answers.
-fn take_requests(
-    rt: &(impl Input + Print + Eprint),
-    d: &mut [u16],
-    state: State,
-    count: usize,
-    room: usize,
-) -> State
+fn take_requests(rt: &impl Console, d: &mut [u16], state: State, count: usize, room: usize) -> State
     requires { (length d.old ≡ 15872) × (state.words ≤ 15872) × (count ≤ 8) }
     ensures { Follows state result }
 {
@@ -150,12 +133,7 @@ fn take_requests(
 }
 
 // The room for answers, how many requests there are, and the requests.
-pub fn take_batch(
-    rt: &(impl Input + Print + Eprint),
-    d: &mut [u16],
-    state: State,
-    head: &[u8],
-) -> State
+pub fn take_batch(rt: &impl Console, d: &mut [u16], state: State, head: &[u8]) -> State
     requires { (length d.old ≡ 15872) × (state.words ≤ 15872) × (length head.now ≡ 30) }
     ensures { Follows state result }
 {

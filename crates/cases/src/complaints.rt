@@ -1,5 +1,5 @@
 // What can't be understood: one line on standard error, which names the byte. Whether a line got out there is no matter: the run ends anyway.
-use std::{fmt, io};
+use std::fmt;
 
 // What can't be taken of a word or a number.
 #[derive(Clone, Copy)]
@@ -59,9 +59,4 @@ fn name_end(rt: &impl Eprint, is_between: bool) {
 pub(crate) fn complain_of_end(rt: &impl Eprint, is_between: bool, offset: u64) {
     name_end(rt, is_between);
     end_complaint(rt, offset);
-}
-
-// Standard input or output failed: which of them, and what the system says of it.
-pub(crate) fn complain_of_failure(rt: &impl Eprint, stream: &str, error: io::Error) {
-    let _ = eprintln!(rt; "conformance: {stream}: {error}");
 }

@@ -4,17 +4,19 @@ ghost use Rattle.meaning.specs.Listing.{word_at};
 ghost use Rattle.cases.specs.Runs.{Follows};
 ghost use Rattle.cases.specs.Records.{long_at, signed_at, name_at, is_request, op_of, request_at};
 
-use crate::complaints::{complain_of_end, complain_of_failure};
+use crate::complaints::complain_of_end;
 use crate::state::{State, passed, stopped};
 use meaning::{Name, Op, Request};
 use std::io;
 use std::io::Read;
+use streams::fail;
 
 // The most bytes that a record counts. A program that takes them has room for so many.
 pub const BYTES: usize = 100000;
 
-// Fills the bytes from standard input as far as it goes, and answers how many came.
-fn read_full(rt: &impl Input, bytes: &mut [u8]) -> io::Result<usize>
+// Fills the bytes from standard input as far as it goes, and answers how many came, or why a read failed. `streams::read_full` would stop at a
+// failed read as at the input's end, and these are told apart here.
+fn fill(rt: &impl Input, bytes: &mut [u8]) -> io::Result<usize>
     ensures { IfOk result (λ n. n ≤ length bytes.new) }
 {
     let mut reader = rt.reader();
@@ -32,14 +34,14 @@ fn read_full(rt: &impl Input, bytes: &mut [u8]) -> io::Result<usize>
 // Fills the bytes from standard input, and the run goes on behind them. Where fewer come it ends: in the midst of a record, unless it
 // is a record's first bytes that are asked for and none came.
 pub fn read_bytes(
-    rt: &(impl Input + Eprint),
+    rt: &(impl Input + Eprint + Alloc),
     bytes: &mut [u8],
     state: State,
     is_first: bool,
 ) -> State
     ensures { Follows state result }
 {
-    match read_full(rt, bytes) {
+    match fill(rt, bytes) {
         Ok(got) => {
             let next = passed(state, got, true);
             if got == bytes.len() {
@@ -47,14 +49,14 @@ pub fn read_bytes(
             }
             complain_of_end(rt, is_first && got == 0, next.offset);
         }
-        Err(error) => complain_of_failure(rt, "standard input", error),
+        Err(error) => fail(rt, b"conformance: standard input", error),
     }
     stopped()
 }
 
 // Fills the first bytes, so many, as a record has them that counts its bytes: an odd last one is followed by one more, so that words follow.
 pub fn read_counted(
-    rt: &(impl Input + Eprint),
+    rt: &(impl Input + Eprint + Alloc),
     bytes: &mut [u8],
     count: usize,
     state: State,
@@ -127,7 +129,7 @@ fn words_of_bytes(bytes: &[u8], words: &mut [u16])
 }
 
 // Fills the words from standard input. Where fewer than all their bytes come the run ends, and what the words are is no matter.
-pub fn read_words(rt: &(impl Input + Eprint), words: &mut [u16], state: State) -> State
+pub fn read_words(rt: &(impl Input + Eprint + Alloc), words: &mut [u16], state: State) -> State
     requires { length words.old ≤ 15872 }
     ensures { Follows state result }
 {

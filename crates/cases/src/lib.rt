@@ -8,3 +8,9 @@ pub mod output;
 pub mod state;
 
 pub use complaints::Why;
+
+// What a run asks of the system: standard input, output and error, and memory for the text of a failure. It has no files, so that what a proof
+// trusts of the system stays small.
+pub trait Console: Input + Print + Eprint + Alloc {}
+
+impl Console for HostRuntime {}

@@ -3,11 +3,11 @@ ghost use Rattle.std.specs.Prelude.{◌≡◌, ◌<◌, ◌≤◌};
 ghost use Rattle.cases.specs.Runs.{Passed};
 ghost use Rattle.cases.specs.Lines.{numbers_of, Added, check};
 
-use crate::complaints::complain_of_failure;
 use crate::input::wide_byte;
 use crate::state::{State, passed};
 use itoa::Buffer;
 use meaning::Answer;
+use streams::fail;
 
 // A word of six letters, six numbers that are words and three of up to twenty digits, each with a byte before it, have room.
 const ROOM: usize = 128;
@@ -59,21 +59,26 @@ fn put_numbers(line: &mut [u8; ROOM], start: usize, numbers: &[u64]) -> usize
 }
 
 // Whether the line got out; where it did not, standard error says why.
-fn write_out(rt: &(impl Print + Eprint), line: &[u8; ROOM], end: usize) -> bool
+fn write_out(rt: &(impl Print + Eprint + Alloc), line: &[u8; ROOM], end: usize) -> bool
     requires { end ≤ 128 }
 {
     let whole = &line[..];
     match rt.write_all(&whole[0..end]) {
         Ok(()) => true,
         Err(error) => {
-            complain_of_failure(rt, "standard output", error);
+            fail(rt, b"conformance: standard output", error);
             false
         }
     }
 }
 
 // A line of a word and numbers, with a space between them. The word may be empty. Where the line does not get out the run ends.
-pub fn write_line(rt: &(impl Print + Eprint), state: State, word: &[u8], numbers: &[u64]) -> State
+pub fn write_line(
+    rt: &(impl Print + Eprint + Alloc),
+    state: State,
+    word: &[u8],
+    numbers: &[u64],
+) -> State
     ensures { Passed state 0 result.going result }
 {
     let mut line = [0u8; ROOM];
@@ -84,7 +89,7 @@ pub fn write_line(rt: &(impl Print + Eprint), state: State, word: &[u8], numbers
 }
 
 // A line of a text alone.
-pub fn write_text(rt: &(impl Print + Eprint), state: State, text: &[u8]) -> State
+pub fn write_text(rt: &(impl Print + Eprint + Alloc), state: State, text: &[u8]) -> State
     ensures { Passed state 0 result.going result }
 {
     write_line(rt, state, text, &[])

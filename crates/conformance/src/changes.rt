@@ -2,12 +2,12 @@
 ghost use Rattle.std.specs.Prelude.{◌≡◌, ◌≤◌, length};
 
 use crate::records::write_fault;
-use cases::Why;
 use cases::input::{read_bytes, word_at};
 use cases::state::{State, refused};
+use cases::{Console, Why};
 
 // A place and the word that it gets.
-fn change_word(rt: &(impl Input + Eprint), d: &mut [u16], state: State) -> State
+fn change_word(rt: &impl Console, d: &mut [u16], state: State) -> State
     requires { (length d.old ≡ 15872) × (state.words ≤ 15872) }
     ensures { result.words ≤ 15872 }
 {
@@ -25,7 +25,7 @@ fn change_word(rt: &(impl Input + Eprint), d: &mut [u16], state: State) -> State
     next
 }
 
-fn change_words(rt: &(impl Input + Eprint), d: &mut [u16], start: State, count: usize) -> State
+fn change_words(rt: &impl Console, d: &mut [u16], start: State, count: usize) -> State
     requires { (length d.old ≡ 15872) × (start.words ≤ 15872) }
     ensures { result.words ≤ 15872 }
 {
@@ -42,12 +42,7 @@ fn change_words(rt: &(impl Input + Eprint), d: &mut [u16], start: State, count: 
 }
 
 // How many words are changed, and the pairs. The fault of the directory is the record's line.
-pub(crate) fn take_changes(
-    rt: &(impl Input + Print + Eprint),
-    d: &mut [u16],
-    state: State,
-    head: &[u8],
-) -> State
+pub(crate) fn take_changes(rt: &impl Console, d: &mut [u16], state: State, head: &[u8]) -> State
     requires { (length d.old ≡ 15872) × (state.words ≤ 15872) × (length head.now ≡ 30) }
     ensures { result.words ≤ 15872 }
 {

@@ -8,9 +8,9 @@ mod records;
 
 ghost use Rattle.std.specs.Prelude.{◌≡◌, ◌≤◌, length};
 
-use cases::Why;
 use cases::input::{read_bytes, word_at};
 use cases::state::{State, refused, stopped};
+use cases::{Console, Why};
 
 // How many bytes stand behind a type in every record of it, before the words that are counted there.
 fn head_bytes(number: u16) -> usize
@@ -29,7 +29,7 @@ fn head_bytes(number: u16) -> usize
 }
 
 // A record's type, and what stands behind it in every record of the type.
-fn read_head(rt: &(impl Input + Eprint), head: &mut [u8], state: State) -> State
+fn read_head(rt: &impl Console, head: &mut [u8], state: State) -> State
     requires { (length head.old ≡ 30) × (state.words ≤ 15872) }
     ensures { result.words ≤ 15872 }
 {
@@ -42,7 +42,7 @@ fn read_head(rt: &(impl Input + Eprint), head: &mut [u8], state: State) -> State
 }
 
 // What the types of our own ask for: those from 100 on.
-fn take_own(rt: &(impl Input + Print + Eprint), d: &mut [u16], state: State, head: &[u8]) -> State
+fn take_own(rt: &impl Console, d: &mut [u16], state: State, head: &[u8]) -> State
     requires { (length d.old ≡ 15872) × (state.words ≤ 15872) × (length head.now ≡ 30) }
     ensures { result.words ≤ 15872 }
 {
@@ -55,7 +55,7 @@ fn take_own(rt: &(impl Input + Print + Eprint), d: &mut [u16], state: State, hea
 }
 
 // What the types ask for that came from outside and have nothing to do with the directory: a label or a load file, read or written.
-fn take_later(rt: &(impl Input + Print + Eprint), d: &mut [u16], state: State, head: &[u8]) -> State
+fn take_later(rt: &impl Console, d: &mut [u16], state: State, head: &[u8]) -> State
     requires { (length d.old ≡ 15872) × (state.words ≤ 15872) × (length head.now ≡ 30) }
     ensures { result.words ≤ 15872 }
 {
@@ -67,7 +67,7 @@ fn take_later(rt: &(impl Input + Print + Eprint), d: &mut [u16], state: State, h
 }
 
 // What the type asks for.
-fn take_kind(rt: &(impl Input + Print + Eprint), d: &mut [u16], state: State, head: &[u8]) -> State
+fn take_kind(rt: &impl Console, d: &mut [u16], state: State, head: &[u8]) -> State
     requires { (length d.old ≡ 15872) × (state.words ≤ 15872) × (length head.now ≡ 30) }
     ensures { result.words ≤ 15872 }
 {
@@ -82,7 +82,7 @@ fn take_kind(rt: &(impl Input + Print + Eprint), d: &mut [u16], state: State, he
 }
 
 // One record.
-fn take_record(rt: &(impl Input + Print + Eprint), d: &mut [u16], state: State) -> State
+fn take_record(rt: &impl Console, d: &mut [u16], state: State) -> State
     requires { (length d.old ≡ 15872) × (state.words ≤ 15872) }
     ensures { result.words ≤ 15872 }
 {
@@ -95,7 +95,7 @@ fn take_record(rt: &(impl Input + Print + Eprint), d: &mut [u16], state: State) 
 }
 
 // A proved loop has to end, and nothing says that the input does: so the turns are counted down, from a number that no run uses up.
-fn run(rt: &(impl Input + Print + Eprint), d: &mut [u16], start: State)
+fn run(rt: &impl Console, d: &mut [u16], start: State)
     requires { (length d.old ≡ 15872) × (start.words ≤ 15872) }
 {
     let mut state = start;

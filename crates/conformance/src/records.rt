@@ -1,10 +1,10 @@
 // Types 1 to 3: a directory, a fresh start, a request. A head is a record's type and the words that stand behind every record of its type.
 ghost use Rattle.std.specs.Prelude.{◌≡◌, ◌≤◌, length};
 
-use cases::Why;
 use cases::input::{is_request, long_at, read_words, request_at, word_at};
 use cases::output::{check_of, numbers_of, write_line};
 use cases::state::{State, refused};
+use cases::{Console, Why};
 use door::{fault, fresh, serve};
 use meaning::Answer;
 
@@ -12,7 +12,7 @@ use meaning::Answer;
 const WORDS: usize = 15872;
 
 // The fault of the present directory is the record's line, unless the run has ended.
-pub(crate) fn write_fault(rt: &(impl Print + Eprint), d: &[u16], state: State) -> State
+pub(crate) fn write_fault(rt: &impl Console, d: &[u16], state: State) -> State
     requires { (length d.now ≡ 15872) × (state.words ≤ 15872) }
     ensures { result.words ≤ 15872 }
 {
@@ -25,12 +25,7 @@ pub(crate) fn write_fault(rt: &(impl Print + Eprint), d: &[u16], state: State) -
 }
 
 // Type 1: V in two words, and a count of words, which become the present directory.
-pub(crate) fn take_directory(
-    rt: &(impl Input + Print + Eprint),
-    d: &mut [u16],
-    state: State,
-    head: &[u8],
-) -> State
+pub(crate) fn take_directory(rt: &impl Console, d: &mut [u16], state: State, head: &[u8]) -> State
     requires { (length d.old ≡ 15872) × (length head.now ≡ 30) }
     ensures { result.words ≤ 15872 }
 {
@@ -50,7 +45,7 @@ pub(crate) fn take_directory(
 }
 
 // The answer and the check over the directory as it now stands.
-fn write_answer(rt: &(impl Print + Eprint), d: &[u16], state: State, answer: Answer) -> State
+fn write_answer(rt: &impl Console, d: &[u16], state: State, answer: Answer) -> State
     requires { (length d.now ≡ 15872) × (state.words ≤ 15872) }
     ensures { result.words ≤ 15872 }
 {
@@ -60,12 +55,7 @@ fn write_answer(rt: &(impl Print + Eprint), d: &[u16], state: State, answer: Ans
 }
 
 // Type 2: a fresh start over the present words, with so many extra words to an entry.
-pub(crate) fn start_fresh(
-    rt: &(impl Print + Eprint),
-    d: &mut [u16],
-    state: State,
-    head: &[u8],
-) -> State
+pub(crate) fn start_fresh(rt: &impl Console, d: &mut [u16], state: State, head: &[u8]) -> State
     requires { (length d.old ≡ 15872) × (state.words ≤ 15872) × (length head.now ≡ 30) }
     ensures { result.words ≤ 15872 }
 {
@@ -75,12 +65,7 @@ pub(crate) fn start_fresh(
 }
 
 // Type 3: a request in fourteen words.
-pub(crate) fn take_request(
-    rt: &(impl Print + Eprint),
-    d: &mut [u16],
-    state: State,
-    head: &[u8],
-) -> State
+pub(crate) fn take_request(rt: &impl Console, d: &mut [u16], state: State, head: &[u8]) -> State
     requires { (length d.old ≡ 15872) × (state.words ≤ 15872) × (length head.now ≡ 30) }
     ensures { result.words ≤ 15872 }
 {

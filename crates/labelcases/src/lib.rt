@@ -4,10 +4,10 @@
 ghost use Rattle.std.specs.Prelude.{◌≡◌, length};
 ghost use Rattle.cases.specs.Runs.{Follows};
 
-use cases::Why;
 use cases::input::{BYTES, long_at, read_bytes, read_counted, word_at};
 use cases::output::{check_of_bytes, write_line, write_text};
 use cases::state::{State, refused};
+use cases::{Console, Why};
 use label::{Label, read_label, write_label};
 
 // The line of a label: name and owner with their spaces, and one space between them.
@@ -20,7 +20,7 @@ fn text_of(name: [u8; 12], owner: [u8; 12]) -> [u8; 39] {
     text
 }
 
-fn write_read(rt: &(impl Print + Eprint), state: State, label: Label) -> State
+fn write_read(rt: &impl Console, state: State, label: Label) -> State
     ensures { Follows state result }
 {
     if label.number != 0 {
@@ -35,7 +35,7 @@ fn write_read(rt: &(impl Print + Eprint), state: State, label: Label) -> State
 }
 
 // Name and owner stand behind the block. The check is over the block as the writer leaves it.
-fn mark(rt: &(impl Input + Print + Eprint), block: &mut [u8], state: State) -> State
+fn mark(rt: &impl Console, block: &mut [u8], state: State) -> State
     ensures { Follows state result }
 {
     let mut name = [0u8; 12];
@@ -53,12 +53,7 @@ fn mark(rt: &(impl Input + Print + Eprint), block: &mut [u8], state: State) -> S
 }
 
 // What the type asks of the block.
-fn serve_block(
-    rt: &(impl Input + Print + Eprint),
-    block: &mut [u8],
-    state: State,
-    number: u16,
-) -> State
+fn serve_block(rt: &impl Console, block: &mut [u8], state: State, number: u16) -> State
     ensures { Follows state result }
 {
     if number == 7 {
@@ -68,7 +63,7 @@ fn serve_block(
 }
 
 // Both types begin with the bytes of a block, which may be too few or too many for one.
-pub fn take_block(rt: &(impl Input + Print + Eprint), state: State, head: &[u8]) -> State
+pub fn take_block(rt: &impl Console, state: State, head: &[u8]) -> State
     requires { length head.now ≡ 30 }
     ensures { Follows state result }
 {

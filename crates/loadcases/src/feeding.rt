@@ -3,10 +3,10 @@
 ghost use Rattle.std.specs.Prelude.{◌≡◌, ◌≤◌, true, length};
 ghost use Rattle.cases.specs.Runs.{Follows};
 
-use cases::Why;
 use cases::input::{long_at, read_bytes, word_at};
 use cases::output::{check_of, write_line};
 use cases::state::{State, refused};
+use cases::{Console, Why};
 use loadsteps::{Answer, Reader};
 use pieces::{answer_of, begin, feed, finish};
 
@@ -25,7 +25,7 @@ struct Fed {
 }
 
 // The next length. More bytes than the stream has left end the run.
-fn read_length(rt: &(impl Input + Eprint), state: State, left: usize) -> Length
+fn read_length(rt: &impl Console, state: State, left: usize) -> Length
     ensures { (result.count ≤ left) × Follows state result.state }
 {
     let mut number = [0u8; 4];
@@ -51,13 +51,7 @@ fn read_length(rt: &(impl Input + Eprint), state: State, left: usize) -> Length
 }
 
 // So many pieces, from the stream's first byte on.
-fn feed_pieces(
-    rt: &(impl Input + Eprint),
-    words: &mut [u16],
-    stream: &[u8],
-    start: State,
-    count: u16,
-) -> Fed
+fn feed_pieces(rt: &impl Console, words: &mut [u16], stream: &[u8], start: State, count: u16) -> Fed
     requires { start.going ≡ true }
     ensures { Follows start result.state }
 {
@@ -97,12 +91,7 @@ fn told(reader: Reader, is_ended: bool) -> Reader {
 }
 
 // The last word says whether the input has ended.
-fn show_pieces(
-    rt: &(impl Input + Print + Eprint),
-    words: &[u16],
-    reader: Reader,
-    state: State,
-) -> State
+fn show_pieces(rt: &impl Console, words: &[u16], reader: Reader, state: State) -> State
     ensures { Follows state result }
 {
     let mut word = [0u8; 2];
@@ -121,7 +110,7 @@ fn show_pieces(
 
 // How many pieces there are, and their lengths. Bytes behind the last piece are not fed.
 pub(crate) fn take_pieces(
-    rt: &(impl Input + Print + Eprint),
+    rt: &impl Console,
     words: &mut [u16],
     stream: &[u8],
     state: State,

@@ -8,10 +8,10 @@ ghost use Rattle.std.specs.Prelude.{◌≡◌, length};
 ghost use Rattle.cases.specs.Runs.{Follows};
 
 use crate::feeding::take_pieces;
-use cases::Why;
 use cases::input::{BYTES, long_at, read_counted, word_at};
 use cases::output::{check_of, check_of_bytes, write_line};
 use cases::state::{State, refused};
+use cases::{Console, Why};
 use loadread::load;
 use loads::{Loaded, Saved};
 use loadwrite::save;
@@ -33,7 +33,7 @@ fn fill_memory(words: &mut [u16], first: u16, step: u16) {
     }
 }
 
-fn show_load(rt: &(impl Print + Eprint), words: &mut [u16], stream: &[u8], state: State) -> State
+fn show_load(rt: &impl Console, words: &mut [u16], stream: &[u8], state: State) -> State
     ensures { Follows state result }
 {
     let answer: Loaded = load(stream, words);
@@ -51,7 +51,7 @@ fn show_load(rt: &(impl Print + Eprint), words: &mut [u16], stream: &[u8], state
 
 // What the type asks of the stream.
 fn serve_stream(
-    rt: &(impl Input + Print + Eprint),
+    rt: &impl Console,
     words: &mut [u16],
     stream: &[u8],
     state: State,
@@ -67,7 +67,7 @@ fn serve_stream(
 
 // All bytes of the stream are read, and then a reader gets them.
 fn read_stream(
-    rt: &(impl Input + Print + Eprint),
+    rt: &impl Console,
     words: &mut [u16],
     stream: &mut [u8],
     state: State,
@@ -84,12 +84,7 @@ fn read_stream(
 }
 
 // The bytes of a stream follow the memory.
-fn take_stream(
-    rt: &(impl Input + Print + Eprint),
-    words: &mut [u16],
-    state: State,
-    head: &[u8],
-) -> State
+fn take_stream(rt: &impl Console, words: &mut [u16], state: State, head: &[u8]) -> State
     requires { length head.now ≡ 30 }
     ensures { Follows state result }
 {
@@ -103,13 +98,7 @@ fn take_stream(
     read_stream(rt, words, &mut bytes[0..n], state, word_at(head, 0))
 }
 
-fn show_save(
-    rt: &(impl Print + Eprint),
-    words: &[u16],
-    out: &mut [u8],
-    state: State,
-    head: &[u8],
-) -> State
+fn show_save(rt: &impl Console, words: &[u16], out: &mut [u8], state: State, head: &[u8]) -> State
     requires { length head.now ≡ 30 }
     ensures { Follows state result }
 {
@@ -129,7 +118,7 @@ fn show_save(
 }
 
 // First byte, count, transfer address and room follow the memory.
-fn take_range(rt: &(impl Print + Eprint), words: &[u16], state: State, head: &[u8]) -> State
+fn take_range(rt: &impl Console, words: &[u16], state: State, head: &[u8]) -> State
     requires { length head.now ≡ 30 }
     ensures { Follows state result }
 {
@@ -144,12 +133,7 @@ fn take_range(rt: &(impl Print + Eprint), words: &[u16], state: State, head: &[u
 }
 
 // What the type asks of the memory.
-fn serve_memory(
-    rt: &(impl Input + Print + Eprint),
-    words: &mut [u16],
-    state: State,
-    head: &[u8],
-) -> State
+fn serve_memory(rt: &impl Console, words: &mut [u16], state: State, head: &[u8]) -> State
     requires { length head.now ≡ 30 }
     ensures { Follows state result }
 {
@@ -169,7 +153,7 @@ fn behind_type(number: u16) -> usize {
 }
 
 // All three types begin with a memory.
-pub fn take_memory(rt: &(impl Input + Print + Eprint), state: State, head: &[u8]) -> State
+pub fn take_memory(rt: &impl Console, state: State, head: &[u8]) -> State
     requires { length head.now ≡ 30 }
     ensures { Follows state result }
 {

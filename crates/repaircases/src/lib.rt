@@ -4,10 +4,10 @@
 ghost use Rattle.std.specs.Prelude.{◌≡◌, ◌≤◌, length};
 ghost use Rattle.cases.specs.Runs.{Follows};
 
-use cases::Why;
 use cases::input::{read_words, word_at};
 use cases::output::write_line;
 use cases::state::{State, refused};
+use cases::{Console, Why};
 use directory::sound::fault_of;
 use repair::{accept, repair};
 use segment::copying::copy_words;
@@ -16,7 +16,7 @@ use segment::copying::copy_words;
 const WORDS: usize = 15872;
 
 // The test of a proposal for these words.
-fn write_test(rt: &(impl Print + Eprint), old: &[u16], state: State, proposal: &[u16]) -> State
+fn write_test(rt: &impl Console, old: &[u16], state: State, proposal: &[u16]) -> State
     ensures { Follows state result }
 {
     let number = accept(old, state.blocks, proposal);
@@ -24,7 +24,7 @@ fn write_test(rt: &(impl Print + Eprint), old: &[u16], state: State, proposal: &
 }
 
 // What the tool gave for these words: the test of it, and its fault.
-fn write_given(rt: &(impl Print + Eprint), old: &[u16], state: State, new: &[u16]) -> State
+fn write_given(rt: &impl Console, old: &[u16], state: State, new: &[u16]) -> State
     ensures { Follows state result }
 {
     let next = write_test(rt, old, state, new);
@@ -36,7 +36,7 @@ fn write_given(rt: &(impl Print + Eprint), old: &[u16], state: State, new: &[u16
 }
 
 // The tool on these words, of which a copy is at hand.
-fn write_repair(rt: &(impl Print + Eprint), d: &mut [u16], state: State, old: &[u16]) -> State
+fn write_repair(rt: &impl Console, d: &mut [u16], state: State, old: &[u16]) -> State
     ensures { Follows state result }
 {
     let number = repair(d, state.blocks);
@@ -51,12 +51,7 @@ fn write_repair(rt: &(impl Print + Eprint), d: &mut [u16], state: State, old: &[
 }
 
 // The proposal read into these words, and tested.
-fn read_proposal(
-    rt: &(impl Input + Print + Eprint),
-    d: &[u16],
-    state: State,
-    words: &mut [u16],
-) -> State
+fn read_proposal(rt: &impl Console, d: &[u16], state: State, words: &mut [u16]) -> State
     requires { length words.old ≤ 15872 }
     ensures { Follows state result }
 {
@@ -68,12 +63,7 @@ fn read_proposal(
 }
 
 // Type 5: a count of words, which are the proposal.
-pub fn take_proposal(
-    rt: &(impl Input + Print + Eprint),
-    d: &[u16],
-    state: State,
-    head: &[u8],
-) -> State
+pub fn take_proposal(rt: &impl Console, d: &[u16], state: State, head: &[u8]) -> State
     requires { (length d.now ≡ 15872) × (state.words ≤ 15872) × (length head.now ≡ 30) }
     ensures { Follows state result }
 {
@@ -88,7 +78,7 @@ pub fn take_proposal(
 }
 
 // Type 6.
-pub fn repair_words(rt: &(impl Print + Eprint), d: &mut [u16], state: State) -> State
+pub fn repair_words(rt: &impl Console, d: &mut [u16], state: State) -> State
     requires { (length d.old ≡ 15872) × (state.words ≤ 15872) }
     ensures { Follows state result }
 {

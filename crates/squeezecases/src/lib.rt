@@ -4,17 +4,17 @@
 ghost use Rattle.std.specs.Prelude.{◌≡◌, ◌+◌, ◌*◌, ◌≤◌, length};
 ghost use Rattle.cases.specs.Runs.{Follows};
 
-use cases::Why;
 use cases::input::word_at;
 use cases::output::{check_of, write_line};
 use cases::state::{State, refused};
+use cases::{Console, Why};
 use squeeze::squeeze;
 
 // Room for 2,300 moves of three words.
 const ROOM: usize = 6900;
 
 // The move whose words stand at this place of the list.
-fn write_move(rt: &(impl Print + Eprint), state: State, list: &[u16], at: usize) -> State
+fn write_move(rt: &impl Console, state: State, list: &[u16], at: usize) -> State
     requires { at + 3 ≤ length list.now }
     ensures { Follows state result }
 {
@@ -23,7 +23,7 @@ fn write_move(rt: &(impl Print + Eprint), state: State, list: &[u16], at: usize)
 }
 
 // The first moves of the list, so many.
-fn write_moves(rt: &(impl Print + Eprint), start: State, list: &[u16], count: usize) -> State
+fn write_moves(rt: &impl Console, start: State, list: &[u16], count: usize) -> State
     requires { 3 * count ≤ length list.now }
     ensures { Follows start result }
 {
@@ -42,7 +42,7 @@ fn write_moves(rt: &(impl Print + Eprint), start: State, list: &[u16], count: us
 }
 
 // The squeeze with this list, its number, count and check over the directory as it now stands, and the moves.
-fn serve_squeeze(rt: &(impl Print + Eprint), d: &mut [u16], state: State, list: &mut [u16]) -> State
+fn serve_squeeze(rt: &impl Console, d: &mut [u16], state: State, list: &mut [u16]) -> State
     requires { (length d.old ≡ 15872) × (state.words ≤ 15872) }
     ensures { Follows state result }
 {
@@ -58,7 +58,7 @@ fn serve_squeeze(rt: &(impl Print + Eprint), d: &mut [u16], state: State, list: 
 }
 
 // The room: how many moves the list holds.
-pub fn take_squeeze(rt: &(impl Print + Eprint), d: &mut [u16], state: State, head: &[u8]) -> State
+pub fn take_squeeze(rt: &impl Console, d: &mut [u16], state: State, head: &[u8]) -> State
     requires { (length d.old ≡ 15872) × (state.words ≤ 15872) × (length head.now ≡ 30) }
     ensures { Follows state result }
 {

@@ -1,6 +1,6 @@
--- `read_full` ends: a read that brings nothing ends it, and each other one leaves less room.
+-- `fill` ends: a read that brings nothing ends it, and each other one leaves less room.
 use Rattle.std.proofs.Common.{length, ◌-◌, ◌≤◌}
-use Rattle.cases.proofs.input.read_full.Given as goal
+use Rattle.cases.proofs.input.fill.Given as goal
 
 abbrev pub invariant-loop-done : goal.invariant-loop-done
 invariant-loop-done g l = l.done ≤ length l.bytes
