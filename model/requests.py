@@ -4,7 +4,7 @@
     python3 model/requests.py SEED COUNT CASES EXPECTED
 
 writes a case file of COUNT directories, most of them sound and dense, each with up to forty records of requests, batches and damages, and
-its lines. Then `target/bin/conformance < CASES | cmp - EXPECTED` (on Arm under the toolchain's emulator, as ./list runs its program).
+its lines. Then `tools/cases < CASES | cmp - EXPECTED`, once rt run in crates/conformance has built the program.
 """
 import random
 import sys

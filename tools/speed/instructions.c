@@ -11,7 +11,6 @@ struct name {
     u16 first, second, extension;
 };
 
-// A commit from before document 02's Req 08 leaves the last two as they are, and they are not compared.
 struct answer {
     u16 number, first, length, date, segment, slot;
 };
@@ -84,7 +83,7 @@ __attribute__((noinline)) static void mark(void) {
 }
 
 static int same(struct answer a, struct answer b) {
-    return a.number == b.number && a.first == b.first && a.length == b.length && a.date == b.date;
+    return a.number == b.number && a.first == b.first && a.length == b.length && a.date == b.date && a.segment == b.segment && a.slot == b.slot;
 }
 
 // The fault, and the lookup of a name that is not there: both meet every entry.

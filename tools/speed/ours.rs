@@ -1,4 +1,4 @@
-//! The proved routines, from the archive that `rt staticlib` wrote. A slice goes as its pointer and its length. Sixteen bits come back in a
+//! The proved routines, from the archive that `rt lib` wrote. A slice goes as its pointer and its length. Sixteen bits come back in a
 //! register whose upper half may be anything, hence u32 and a cast.
 use ordinary::{Answer, Name, Report, Request, ROOM};
 
@@ -20,15 +20,8 @@ extern "C" {
     fn our_save(words: *const u16, len: usize, start: usize, n: usize, transfer: u16, out: *mut u8, room: usize, made: &mut usize) -> u32;
     fn our_read_pieces(s: *const u8, size: usize, lengths: *const usize, n: usize, ends: bool, d: *mut u16, len: usize, out: &mut [u64; 5]);
     fn our_squeeze(d: *mut u16, len: usize, v: usize, list: *mut u16, room: usize, count: &mut usize) -> u32;
-    // Not exported, since it takes records: called as the proved code calls it, where a slice goes as a pointer to both.
-    #[link_name = "batch::run"]
-    fn our_batch(d: &Lent<u16>, v: usize, requests: &Lent<Request>, answers: &Lent<Answer>) -> u32;
-}
-
-#[repr(C)]
-struct Lent<T> {
-    first: *const T,
-    len: usize,
+    // Of at most 512 records, which it takes into proved ones and back.
+    fn our_batch(d: *mut u16, len: usize, v: usize, asked: *const Request, n: usize, out: *mut Answer, room: usize) -> u32;
 }
 
 pub fn fault(d: &[u16], v: usize) -> u16 {
@@ -129,8 +122,6 @@ pub fn squeeze(d: &mut [u16], v: usize, list: &mut [u16]) -> (u16, usize) {
 }
 
 pub fn run(d: &mut [u16], v: usize, requests: &[Request], answers: &mut [Answer]) -> u16 {
-    let words = Lent { first: d.as_mut_ptr().cast_const(), len: d.len() };
-    let asked = Lent { first: requests.as_ptr(), len: requests.len() };
-    let room = Lent { first: answers.as_mut_ptr().cast_const(), len: answers.len() };
-    unsafe { our_batch(&words, v, &asked, &room) as u16 }
+    let (asked, n, room) = (requests.as_ptr(), requests.len(), answers.len());
+    unsafe { our_batch(d.as_mut_ptr(), d.len(), v, asked, n, answers.as_mut_ptr(), room) as u16 }
 }

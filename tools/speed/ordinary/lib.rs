@@ -46,7 +46,7 @@ pub enum Op {
     Unprotect,
 }
 
-/// In C's layout, which is that of the proved record too, so that one slice serves both sides.
+/// In C's layout, which is that of the exported record too, so that one slice serves both sides.
 #[derive(Clone, Copy, Debug)]
 #[repr(C)]
 pub struct Request {
