@@ -24,7 +24,7 @@ pub loop-i-preserved : goal.loop-i-preserved
 loop-i-preserved c =
     let l = c.loop-i in
     let bytes = c.args.bytes.now in
-    let good = byte_good bytes l.i c.loop-i-test.true c.if-bytes-i-lt32.false c.if-bytes-i-gt126.false in
+    let good = byte_good bytes l.i c.loop-i-test.true c.if-bytes-i-lt32.false (omega arith) in
     (omega arith, sym good ∙ l.invariant.1)
 
 pub returns : goal.returns
