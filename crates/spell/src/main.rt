@@ -18,8 +18,8 @@ const PRIME: u32 = 65521;
 // One more than the sum of the numbers; and the sum of all that this came to on the way, by which their order counts.
 #[derive(Clone, Copy)]
 struct Sum {
-    pub low: u16,
-    pub high: u16,
+    low: u16,
+    high: u16,
 }
 
 fn add(x: u16, y: u16) -> u16 {
@@ -64,14 +64,13 @@ fn octal_digit(n: u16) -> u8 {
 fn octal(word: u16) -> [u8; 6]
     ensures { 6 ≡ length result }
 {
-    [
-        octal_digit(word / 32768),
-        octal_digit(word / 4096),
-        octal_digit(word / 512),
-        octal_digit(word / 64),
-        octal_digit(word / 8),
-        octal_digit(word),
-    ]
+    let mut digits = [b'0'; 6];
+    let mut rest = word;
+    for digit in digits.iter_mut().rev() {
+        *digit = octal_digit(rest);
+        rest /= 8;
+    }
+    digits
 }
 
 // Nine bytes: one, five spaces, and a group of three.
