@@ -20,24 +20,16 @@ pub fn links_right(d: &[u16]) -> bool
     let total = d[0];
     let highest = d[2] as usize;
     let extra_bytes = d[3];
-    let mut left: usize = highest;
     let mut segment: usize = 1;
-    while 0 < left {
-        if segment < 1 {
-            return false;
-        }
-        if highest < segment {
+    for _ in 0..highest {
+        if segment < 1 || highest < segment {
             return false;
         }
         let base = 512 * (segment - 1);
-        if d[base] != total {
-            return false;
-        }
-        if d[base + 3] != extra_bytes {
+        if d[base] != total || d[base + 3] != extra_bytes {
             return false;
         }
         segment = d[base + 1] as usize;
-        left -= 1;
     }
     segment == 0
 }
