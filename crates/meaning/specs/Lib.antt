@@ -8,3 +8,4 @@ pub mod Enter
 pub mod Batch
 pub mod Listing
 pub mod Examples
+pub mod Told

@@ -6,3 +6,4 @@ pub mod Ahead
 pub mod Writes
 pub mod Moves
 pub mod Looking
+pub mod Passing

@@ -19,10 +19,9 @@ use Rattle.meaning.specs.Words.{Entry, Row, blocks, kind, name_of, same_name, sl
 use Rattle.meaning.specs.Keys.{holds}
 use Rattle.meaning.specs.Answers.{find}
 use Rattle.walks.proofs.Keyed.{holds-file, holds_open}
-use Rattle.segment.specs.Finder.{found_of, Inside, FoundIn}
+use Rattle.segment.specs.Finder.{Found, found_of, Inside, FoundIn}
 use Rattle.segment.specs.declared.finder.Place.{Place}
-use Rattle.segment.specs.declared.finder.Found.{Found}
-use Rattle.segment.specs.declared.finder.Found.TheVariants.{At, Nothing}
+use Rattle.std.proofs.Common.{Some, None}
 use Rattle.walks.proofs.Words.{word, word0}
 use Rattle.walks.proofs.Slots.{chunks_step, mul_less}
 
@@ -133,7 +132,7 @@ module _ {g : List ℕ} {w s base first : ℕ} {key : Key} {left p b : ℕ} (v :
   block-small = omega (arith, v.small, v.counted, div-le_self 507 w)
 
   -- at the marker nothing is found
-  pub ends : 0 < left → is_end (kind_of (get_or g p 0)) ≡ true → FoundIn Nothing g w s base first key
+  pub ends : 0 < left → is_end (kind_of (get_or g p 0)) ≡ true → FoundIn None g w s base first key
   ends h e =
       let at-end = search_end (holds key) w s g left p v.k v.a b h wide e in
       record { is = sym (ap found_of at-end) ∙ v.same; inside = tt }
@@ -141,7 +140,7 @@ module _ {g : List ℕ} {w s base first : ℕ} {key : Key} {left p b : ℕ} (v :
   -- a hit answers the words of its slot, and its number and place, made of the counts
   abbrev hit : Found
   hit =
-      At
+      Some
       (record {
         seg = s;
         slot = slot_count w - left + 1;
@@ -174,9 +173,9 @@ module _ {g : List ℕ} {w s base first : ℕ} {key : Key} {left p b : ℕ} (v :
     same = sym (ap found_of (search_miss (holds key) w s g left p v.k v.a b h wide n e)) ∙ v.same;
   }
 
-  pub none_left : left ≤ 0 → FoundIn Nothing g w s base first key
+  pub none_left : left ≤ 0 → FoundIn None g w s base first key
   none_left h = record { is = sym (ap found_of (search_none (holds key) w s g left p v.k v.a b h)) ∙ v.same; inside = tt }
 
 -- for callers: where the slot of a place found ends
-pub place_inside : (r : Found) (p : Place) (w n : ℕ) → r ≡ At p → Inside r w n → p.at + w ≤ n
+pub place_inside : (r : Found) (p : Place) (w n : ℕ) → r ≡ Some p → Inside r w n → p.at + w ≤ n
 place_inside r p w n e h = rw e at h

@@ -1,4 +1,5 @@
 pub mod Scan
+pub mod Entries
 pub mod Finder
 pub mod Steps
 pub mod Count

@@ -20,13 +20,6 @@ pub struct Place {
     pub date: u16,
 }
 
-// What a search answers.
-#[derive(Clone, Copy)]
-pub enum Found {
-    At(Place),
-    Nothing,
-}
-
 // Whether the slot that begins at this word is an entry of the key; the first test that fails decides. A file is asked for its name first,
 // which differs nearly always in its first word, whereas files and areas may alternate; and then for its kind, since a tentative entry
 // may have the same name. A channel is asked for its kind first: the channel word of a permanent entry means nothing.
@@ -59,7 +52,7 @@ pub fn find_in(
     base: usize,
     first: usize,
     key: Key,
-) -> Found
+) -> Option<Place>
     requires { (length segment.now ≡ 512) × (7 ≤ width) × (width ≤ 23) × (base ≤ 65536) × (first ≤ 65535) }
     ensures { FoundIn result segment.now width number base first key }
 {
@@ -69,10 +62,10 @@ pub fn find_in(
     let mut block: usize = first;
     while 0 < left {
         if kinds::is_marker(segment[word]) {
-            return Found::Nothing;
+            return None;
         }
         if slot_keyed(segment, word, width, key) {
-            return Found::At(Place {
+            return Some(Place {
                 seg: number,
                 slot: slots - left + 1,
                 at: base + word,
@@ -86,5 +79,5 @@ pub fn find_in(
         word += width;
         left -= 1;
     }
-    Found::Nothing
+    None
 }

@@ -5,6 +5,8 @@
 
 pub mod copying;
 pub mod count;
+pub mod entries;
+pub mod entry;
 pub mod finder;
 pub mod kinds;
 pub mod naming;

@@ -1,53 +1,24 @@
--- `count_entries` meets its contract: the loop keeps `Counting`, that the entries passed and those ahead are all, and its measure is
--- the slots left.
+-- `count_entries` meets its contract: the entries that the iterator gives are those of the segment, and they are few.
 use native.Mathlib.Omega.{arith}
-use mathlib.Core.Path.{sym, ◌∙◌}
-use Prim.Native.Nat.{◌+◌, ◌≤◌}
-use Rattle.walks.proofs.Slots.{mul_less}
-use Rattle.segment.proofs.Ahead.{few-slots, counting, count_end, count_next, count_over}
-use Rattle.segment.proofs.count.count_entries.Goals.{In-loop-left}
+use Prim.Native.Nat.{ℕ, ◌≤◌}
+use mathlib.Core.Logic.{inl}
+use mathlib.Core.Path.{◌≡◌, ◌∙◌}
+use lib.ListN.{length}
+use Rattle.std.proofs.lemmas.Iterator.Consumers.{YieldsList-from_first, count_from_yields_List}
+use Rattle.meaning.specs.Words.{slots, upto}
+use Rattle.segment.specs.Entries.{ahead}
+use Rattle.walks.proofs.Slots.{entries-count}
+use Rattle.segment.proofs.Ahead.{slots-room, few-slots}
 use Rattle.segment.proofs.count.count_entries.Goals as goal
 
--- the slot at hand lies in the segment
-slot-fits : (c : In-loop-left) → c.loop-left.word + c.args.width ≤ 512
-slot-fits c =
-    omega (arith, mul_less c.loop-left.left c.args.width c.loop-left-test.true)
-
-pub loop-left-init : goal.loop-left-init
-loop-left-init c =
-    let a = c.args in
-    counting a.segment.now a.width
-
-pub offset_bounds-segment-word : goal.offset_bounds-segment-word
-offset_bounds-segment-word c = omega (arith, slot-fits c)
-
-pub bounds-segment-word : goal.bounds-segment-word
-bounds-segment-word c = omega (arith, slot-fits (goal.at.bounds-segment-word c).In-loop-left)
-
-pub returns-then-is_marker : goal.returns-then-is_marker
-returns-then-is_marker c =
-    let a = c.args in
-    let l = c.loop-left in
-    let h = c.loop-left-test.true in
-    count_end a.segment.now a.width l.left l.word l.count l.invariant h (omega arith)
-    (sym c.is_marker.ensures ∙ c.if-is_marker.true)
-
-pub overflow_add-count : goal.overflow_add-count
-overflow_add-count c = omega (arith, few-slots c.args.width)
-
-pub overflow_add-word : goal.overflow_add-word
-overflow_add-word c = omega (arith, slot-fits (goal.at.overflow_add-word c).In-loop-left)
-
-pub loop-left-preserved : goal.loop-left-preserved
-loop-left-preserved c =
-    let a = c.args in
-    let l = c.loop-left in
-    let h = c.loop-left-test.true in
-    count_next a.segment.now a.width l.left l.word l.count l.invariant h (omega arith)
-    (sym c.is_marker.ensures ∙ c.if-is_marker.false)
+pub count-requires-clause-fits : goal.count-requires-clause-fits
+count-requires-clause-fits c = inl (omega (arith, c.entries_of.ensures.few))
 
 pub returns : goal.returns
 returns c =
-    let a = c.args in
-    let l = c.loop-left in
-    count_over a.segment.now a.width l.left l.word l.count l.invariant c.loop-left-test.false
+    let w = c.args.width in
+    let g = c.args.segment.now in
+    let road = YieldsList-from_first (λ e. e.words.now) (λ s. ahead s.width s.rest.now) (upto (slots w g)) c.entries_of.ensures.left in
+    let e = count_from_yields_List c.entries_of.result _ c.count.ensures.ran road in
+    let few = entries-count w g in
+    record { is = e; few = omega arith; small = omega (arith, few-slots w); room = rw e (slots-room (length (upto (slots w g))) w few) }
