@@ -21,5 +21,9 @@ pub fn head_wrong(d: &[u16]) -> bool
     let segments = d.len() / 512;
     let highest = d[2] as usize;
     let extra_bytes = d[3];
-    d[0] as usize != segments || highest < 1 || segments < highest || extra_bytes % 2 != 0 || 32 < extra_bytes
+    d[0] as usize != segments
+        || highest < 1
+        || segments < highest
+        || extra_bytes % 2 != 0
+        || 32 < extra_bytes
 }

@@ -19,7 +19,7 @@ returns-then-d-base c =
     let some : 0 < highest d - c.loop.counter = omega arith in
     let turn = linked_step (highest d - c.loop.counter) d c.loop.segment some in
     elim c.then-d-base.branch [
-      then-d-base-via-then-d-base w ↦ grind (arith, nat_tests)
+      | then-d-base-via-then-d-base w ↦ grind (arith, nat_tests)
       | then-d-base-via-else-d-base+then-d-base-2 w ↦ grind (arith, nat_tests)
     ]
 

@@ -7,9 +7,15 @@ use Rattle.chain.proofs.head.size_wrong.Goals as goal
 pub returns-then-v-segments : goal.returns-then-v-segments
 unfolding size_wrong
 returns-then-v-segments c =
-    elim c.if-segments-lt1.branch [ then-segments-lt1 w ↦ grind (arith, nat_tests) | else-segments-lt1 w ↦
-      elim c.if-segments-gt31.branch [ then-segments-gt31 z ↦ grind (arith, nat_tests) | else-segments-gt31 z ↦
-        elim c.if-len-segments.branch [ then-len-segments y ↦ grind (arith, nat_tests) | else-len-segments y ↦ grind (arith, nat_tests) ] ] ]
+    elim c.if-segments-lt1.branch [
+      | then-segments-lt1 w ↦ grind (arith, nat_tests)
+      | else-segments-lt1 w ↦
+          elim c.if-segments-gt31.branch [
+            | then-segments-gt31 z ↦ grind (arith, nat_tests)
+            | else-segments-gt31 z ↦
+                elim c.if-len-segments.branch [ then-len-segments y ↦ grind (arith, nat_tests) | else-len-segments y ↦ grind (arith, nat_tests) ]
+          ]
+    ]
 
 pub returns-else-v-segments : goal.returns-else-v-segments
 unfolding size_wrong
