@@ -9,5 +9,4 @@ pub mod entries;
 pub mod entry;
 pub mod finder;
 pub mod kinds;
-pub mod naming;
 pub mod scan;
