@@ -17,7 +17,7 @@ use Rattle.loads.specs.declared.Part.{Part}
 use Rattle.loads.specs.declared.Part.TheVariants.{Gap, Block, End}
 use Rattle.loads.proofs.Bytes.{decide, limit-within}
 use Rattle.loads.proofs.Laws.{stored-long}
-use Rattle.loads.proofs.Parts.{Right, right, part-gap, part-block}
+use Rattle.loads.proofs.Parts.{Right, right, part_gap, part_block}
 use Rattle.loads.proofs.Streams.{rest-is, reads_on, reads-last, fills-on, fills-last, passes_at, accepted-long, accepted-right}
 use Rattle.loadread.specs.Heads.{head_part, HasHead, Storable}
 
@@ -66,8 +66,8 @@ unfolding block_by
 known l s e =
     let n = accepted-long l s e in
     decide (get_or s 0 0) 0
-    (λ f. part-gap l s n f ∙ sym (head-gap s n f))
-    (λ f. part-block l s n f ∙ rw (accepted-right l s e f) (sym (head-block s n f)))
+    (λ f. part_gap l s n f ∙ sym (head-gap s n f))
+    (λ f. part_block l s n f ∙ rw (accepted-right l s e f) (sym (head-block s n f)))
 
 pub has-head : (l : ℕ) (s : List ℕ) → (read_from l 0 s).number ≡ 0 → HasHead s
 has-head l s e =

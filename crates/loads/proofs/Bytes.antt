@@ -13,6 +13,7 @@ use lib.ListN.{length, get_or, set, take, drop, length-set, drop_of_length-le}
 use lib.Seq.{get_or-set_same, get_or-set_other, set_out, take-length, drop-cons}
 use lib.Dec.{eqb}
 use Rattle.bools.proofs.Bools.{either_side}
+use Rattle.std.specs.List.{fold}
 use Rattle.loads.specs.Memory.{limit, byte_at, with_byte, put_byte, puts, bytes_at}
 use Rattle.loads.specs.Blocks.{byte_sum}
 use Rattle.loads.specs.Laws.{Words}
@@ -197,16 +198,10 @@ puts_first a (d ∷ ds) m h =
     let e : length (d ∷ ds) - 1 ≡ length ds = omega arith in
     rw (e, take-length ds)
 
--- the sum of bytes modulo 256: what a turn has, with the sum of what is left, is the sum of all
-pub sum-next : (bs : List ℕ) (i n t : ℕ) → i < length bs → (n + byte_sum (drop i bs)) % 256 ≡ t
-    → ((n + get_or bs i 0) % 256 + byte_sum (drop (i + 1) bs)) % 256 ≡ t
+-- the sum of bytes modulo 256, reduced at each byte
+pub sum_folds : (bs : List ℕ) (n : ℕ) → n < 256 → fold (λ (k b : ℕ). (k + b) % 256) n bs ≡ (n + byte_sum bs) % 256
 unfolding byte_sum
-sum-next bs i n t h e =
-    let f = rw (drop-cons bs i 0 h) at e in
-    rw (add-one i) (omega arith)
-
-pub sum-last : (bs : List ℕ) (i n t : ℕ) → length bs ≤ i → n < 256 → (n + byte_sum (drop i bs)) % 256 ≡ t → n ≡ t
-unfolding byte_sum
-sum-last bs i n t h k e =
-    let f = rw (drop_of_length-le bs h) at e in
-    omega arith
+sum_folds [] n h = omega arith
+sum_folds (b ∷ bs) n h =
+    let e = sum_folds bs ((n + b) % 256) (omega arith) in
+    e ∙ omega arith

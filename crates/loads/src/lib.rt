@@ -5,6 +5,38 @@
 pub mod blocks;
 pub mod memory;
 
+ghost use Rattle.std.specs.Prelude.{◌≡◌};
+ghost use Rattle.loads.specs.Faults.{number_of};
+
+// What is wrong with a block.
+#[derive(Clone, Copy, PartialEq, Eq, Debug)]
+pub enum Fault {
+    // a byte where a block should start that is neither 0 nor 1, or a 1 that no 0 follows
+    Start,
+    // a count below 6
+    Count,
+    // data outside the memory
+    Outside,
+    // a stream that ends before the block is whole
+    Short,
+    Checksum,
+}
+
+impl Fault {
+    // The number of its refusal.
+    pub fn number(self) -> u16
+        ensures { result ≡ number_of self }
+    {
+        match self {
+            Fault::Start => 27,
+            Fault::Count => 28,
+            Fault::Outside => 29,
+            Fault::Short => 30,
+            Fault::Checksum => 31,
+        }
+    }
+}
+
 // What a stream goes on with, at a place where a block should start.
 #[derive(Clone, Copy)]
 pub enum Part {

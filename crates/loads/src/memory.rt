@@ -82,15 +82,9 @@ pub fn put_bytes(words: &mut [u16], address: usize, bytes: &[u8])
     put_pairs(words, address + 1, &bytes[1..]);
 }
 
-// The sum of bytes modulo 256. Reduced at each turn it is one byte to the compiler, which then adds many at once.
-pub fn sum_of(bytes: &[u8]) -> usize
+// The sum of bytes modulo 256. In one byte, so that the compiler adds many at once.
+pub fn sum_of(bytes: &[u8]) -> u8
     ensures { result ≡ byte_sum bytes.now % 256 }
 {
-    let mut sum: usize = 0;
-    let mut i: usize = 0;
-    while i < bytes.len() {
-        sum = (sum + bytes[i] as usize) % 256;
-        i += 1;
-    }
-    sum
+    bytes.iter().fold(0u8, |sum, byte| sum.wrapping_add(*byte))
 }
