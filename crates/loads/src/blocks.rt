@@ -2,10 +2,9 @@
 ghost use Rattle.std.specs.Prelude.{◌≡◌, ◌+◌, ◌≤◌, length};
 ghost use Rattle.loads.specs.Blocks.{pair_at, count_of, start_number, count_number, address_number, sum_number, block_number, right_block, part_of};
 ghost use Rattle.loads.specs.Faults.{number_said};
-ghost use Rattle.loads.specs.Reading.{goes_on, rest_of};
 
-use crate::{Fault, Part};
 use crate::memory::sum_of;
+use crate::{Fault, Part};
 
 // A 16-bit number, low byte first.
 #[tactic(auto, unfolding(crate::specs::Blocks::pair_at))]
@@ -114,29 +113,5 @@ pub fn part_of(rest: &[u8], size: usize) -> Part
             Ok(()) => right_block(rest),
             Err(fault) => Part::Refused(fault.number()),
         },
-    }
-}
-
-// Whether the stream goes on after a part.
-pub fn goes_on(part: Part) -> bool
-    ensures { result ≡ goes_on part }
-{
-    match part {
-        Part::Gap => true,
-        Part::Block(_, _) => true,
-        Part::End(_) => false,
-        Part::Refused(_) => false,
-    }
-}
-
-// How many bytes a part has after its first.
-pub fn rest_of(part: Part) -> usize
-    ensures { result ≡ rest_of part }
-{
-    match part {
-        Part::Gap => 0,
-        Part::Block(_, count) => count as usize + 6,
-        Part::End(_) => 0,
-        Part::Refused(_) => 0,
     }
 }
