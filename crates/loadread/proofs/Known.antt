@@ -136,15 +136,17 @@ store_ends {s} {m₀} {m} {p} {r} c h =
     sym (fills-last (limit m₀) r m (ap goes_on (sym (part_known c)) ∙ h)) ∙ c.left
 
 -- the whole: refused, or stored
-pub load_refused : (s m : List ℕ) (a : Loaded) → a ≡ read_from (limit m) 0 s → (a.number ≡ 0 → ⊥)
-    → (a ≡ load_answer s m) × (m ≡ load_memory s m)
-unfolding load_answer load_memory
-load_refused s m a e h = (e, rw (← e, ne_eqb a.number 0 h))
+pub load_answers : (s m : List ℕ) (a : Loaded) (l : ℕ) → l ≡ limit m → a ≡ read_from l 0 s → a ≡ load_answer s m
+unfolding load_answer
+load_answers s m a l f e = e ∙ rw f
 
-pub load_stored : (s m m' : List ℕ) (a : Loaded) → a ≡ read_from (limit m) 0 s → a.number ≡ 0 → m' ≡ fill_from (limit m) 0 s m
-    → (a ≡ load_answer s m) × (m' ≡ load_memory s m)
-unfolding load_answer load_memory
-load_stored s m m' a e h f = (e, rw (← e, eq-eqb a.number 0 h) f)
+pub load_refused : (s m : List ℕ) → ((load_answer s m).number ≡ 0 → ⊥) → m ≡ load_memory s m
+unfolding load_memory
+load_refused s m h = rw (ne_eqb _ 0 h)
+
+pub load_stored : (s m m' : List ℕ) → (load_answer s m).number ≡ 0 → m' ≡ fill_from (limit m) 0 s m → m' ≡ load_memory s m
+unfolding load_memory
+load_stored s m m' h f = rw (eq-eqb _ 0 h) f
 
 -- a block's data, as they are lent on
 pub block_has : (p : Part) (a n : ℕ) (s m : List ℕ) → p ≡ Block a n → Storable p s m

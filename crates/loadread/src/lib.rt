@@ -83,6 +83,7 @@ fn store(stream: &[u8], words: &mut [u16])
 }
 
 // Reads a load file into the memory: 0 and the transfer address, or the number of the refusal and nothing changed.
+#[tactic(auto, using(crate::proofs::Known::load_answers, crate::proofs::Known::load_refused, crate::proofs::Known::load_stored))]
 pub fn load(stream: &[u8], words: &mut [u16]) -> Loaded
     ensures { (result ≡ load_answer stream.now words.old)
         × (words.new ≡ load_memory stream.now words.old) }
