@@ -79,3 +79,14 @@ pub struct Saved {
     pub number: u16,
     pub count: usize,
 }
+
+impl Saved {
+    pub fn refused(number: u16) -> Saved
+        ensures { (result.number ≡ number) × (result.count ≡ 0) }
+    {
+        Saved { number, count: 0 }
+    }
+}
+
+// The number of too short an output.
+pub const TOO_SHORT: u16 = 24;
