@@ -15,10 +15,7 @@ use segment::kinds;
 pub fn is_protected(found: Option<Place>) -> bool
     ensures { result ≡ protected_at found }
 {
-    match found {
-        Some(place) => kinds::is_protected(place.status),
-        None => false,
-    }
+    found.is_some_and(|place| kinds::is_protected(place.status))
 }
 
 // The entry at a place is granted, which has this length afterwards; in a sound directory its numbers fit words.
