@@ -17,6 +17,7 @@ use Rattle.meaning.specs.Keys.{holds}
 use Rattle.segment.specs.declared.finder.Place.{Place}
 use Rattle.std.proofs.Common.{Some, None, Result, Err}
 use Rattle.std.specs.Option.{ok_or}
+use Rattle.std.specs.declared.option.Option as maybe
 use Rattle.meaning.specs.declared.Granted.{Granted}
 use Rattle.meaning.specs.declared.Refusal.{Refusal}
 use Rattle.meaning.specs.Told.{number_of, told}
@@ -27,9 +28,14 @@ use Rattle.rules.proofs.Grown.{row_ends}
 use Rattle.rules.proofs.Standing.{RowStands, rows-stand, stands_small}
 use Rattle.find.specs.Find.{protected_at, FitsWords, answer_at, restated}
 
+-- what is told at the exit of a `?`: the refusal that it met, and no word is changed
+pub passed-on : (r : Result Granted Refusal) (y f : Refusal) (d : List ℕ) → r ≡ Err y → y ≡ f → Meets (told r) d (refuse (number_of f) d)
+unfolding refuse
+passed-on r y f d p q = rw (p, q) (record { answer = refl; words = refl })
+
 -- what is told where nothing was found, by `o.ok_or(e)?`: e, and no word is changed
-pub unfound : (r : Result Granted Refusal) (y f e : Refusal) {o : Found} (d : List ℕ) → r ≡ Err y → y ≡ f
-    → ◌≡◌ {A = Result Place Refusal} (Err f) (ok_or o e) → o ≡ None
+pub unfound : {T : Type 0} (r : Result Granted Refusal) (y f e : Refusal) {o : maybe.Option T} (d : List ℕ) → r ≡ Err y → y ≡ f
+    → ◌≡◌ {A = Result T Refusal} (Err f) (ok_or o e) → o ≡ None
     → Meets (told r) d (refuse (number_of e) d)
 unfolding refuse
 unfound r y f e d p q t n = let z : r ≡ Err e = grind arith in rw z (record { answer = refl; words = refl })
