@@ -1,14 +1,14 @@
 -- The entries ahead of a walk, which has the words of the slots that are left: they end where those words are no whole slot, or at the
 -- marker; else they are the slot at hand and those ahead of the next. The walk over entries goes by these laws alone. Assumes nothing.
-use Prim.Native.Nat.{ℕ, zero, suc, ◌+◌, ◌*◌, ◌-◌, ◌/◌, ◌≤◌, ◌<◌}
-use mathlib.Core.Path.{◌≡◌, refl, ap, ◌∙◌, sym}
+use Prim.Native.Nat.{ℕ, ◌+◌, ◌-◌, ◌/◌, ◌≤◌, ◌<◌}
+use mathlib.Core.Path.{◌≡◌, ◌∙◌}
 use mathlib.Core.Bool.{true, false, cond}
 use mathlib.Core.List.{List, [], ◌∷◌}
 use native.Mathlib.Nat.{div-eq_of_lt, div-eq-sub-div}
 use native.Mathlib.Omega.{arith}
-use lib.ListN.{length, get_or, take, drop, length-drop}
-use Rattle.meaning.specs.Kinds.{kind_of, is_end}
-use Rattle.meaning.specs.Words.{Entry, kind, chunks, slots, upto}
+use lib.ListN.{length, take, drop, length-drop}
+use Rattle.meaning.specs.Kinds.{is_end}
+use Rattle.meaning.specs.Words.{kind, chunks, slots, upto}
 use Rattle.segment.specs.Entries.{ahead}
 use Rattle.walks.proofs.Slots.{chunks_step}
 

@@ -1,49 +1,39 @@
 -- The scan of a segment's slots. Its loop keeps one equation: what the slots still ahead give after the entries so far is what
 -- all slots give. Each turn takes one slot off the front, with one case for each kind; the rest is room for words and sums.
 -- Assumes nothing.
-use Prim.Native.Nat.{ℕ, zero, suc, ◌+◌, ◌*◌, ◌-◌, ◌≤◌, ◌<◌}
-use mathlib.Core.Path.{◌≡◌, refl}
+use Prim.Native.Nat.{ℕ, suc, ◌+◌, ◌*◌, ◌-◌, ◌/◌, ◌≤◌, ◌<◌}
+use mathlib.Core.Path.{◌≡◌, refl, sym, ap, ◌∙◌}
+use Rattle.std.specs.Prelude.{Option, Some, None}
 use mathlib.Core.Bool.{Bool, true, false, cond, true≢false}
-use mathlib.Core.List.{List, [], ◌∷◌}
-use native.Mathlib.Nat.{add-zero, zero-add, div-mul-le_self, div-le_self}
+use mathlib.Core.List.{List, [], ◌∷◌, ◌++◌}
+use native.Mathlib.Nat.{add-zero, zero-add, div-le_self, div-eq_of_lt, add-div_left}
 use native.Mathlib.Omega.{arith}
-use lib.ListN.{length, get_or, take, drop}
-use lib.Seq.{drop-drop}
+use lib.ListN.{length, drop, length-drop, length-append}
+use lib.Seq.{take_at, drop_at}
 use Rattle.meaning.specs.declared.Kind.{Kind}
 use Rattle.meaning.specs.declared.Kind.TheVariants.{Tentative, Empty, Permanent, End, Unknown}
-use Rattle.meaning.specs.Kinds.{kind_of, is_tentative, is_empty, is_permanent, is_end}
-use Rattle.meaning.specs.Words.{Entry, blocks, kind, name_of, slot_count, chunks, slots, upto, total}
-use Rattle.meaning.specs.Sound.{long_name}
+use Rattle.meaning.specs.Kinds.{is_tentative, is_empty, is_permanent, is_end}
+use Rattle.meaning.specs.Words.{Entry, blocks, kind, slot_count, chunks, slots, upto, total}
 use Rattle.walks.specs.Scan.{bad_by, long_named, scan_bad}
-use Rattle.segment.specs.Scan.{scan_of, Bounded}
+use Rattle.segment.specs.Scan.{scan_of, Bounded, Scanned}
 use Rattle.segment.specs.Steps.{step_by, slot_step, scan_from}
 use Rattle.segment.specs.declared.scan.Step.{Step}
 use Rattle.segment.specs.declared.scan.Step.TheVariants.{Bad, Marker, Next}
-use Rattle.segment.specs.declared.scan.Scan.{Scan}
-use Rattle.segment.specs.declared.scan.Scan.TheVariants.{Fault, Sum}
-use Rattle.walks.proofs.Words.{word, word0}
+use Rattle.segment.specs.declared.scan.Sum.{Sum}
 use Rattle.walks.proofs.Slots.{chunks_step}
 
--- what the slot at p says, by the words that code reads
-pub step_words : (g : List ℕ) (p w : ℕ) (owed : Bool) → 7 ≤ w
-    → slot_step owed (take w (drop p g))
-    ≡ step_by (kind_of (get_or g p 0)) owed (long_name (name_of (take w (drop p g)))) (get_or g (p + 4) 0)
-unfolding slot_step
-step_words g p w owed h =
-    rw (
-      word0 g p w (omega arith),
-      word g p w 4 (omega arith),
-    )
-
 -- what the scan gives where its next slot says s and the slots es come after it
-abbrev pub after : Step → List Entry → ℕ → ℕ → Scan
-after Bad es k t = Fault
-after Marker es k t = Sum k t
+abbrev pub after : Step → List Entry → ℕ → ℕ → Option Sum
+after Bad es k t = None
+after Marker es k t = Some (record { count = k; blocks = t })
 after (Next n p) es k t = scan_from p es (k + 1) (t + n)
+
+abbrev some_sum : ℕ → ℕ → Option Sum
+some_sum k t = Some (record { count = k; blocks = t })
 
 -- the count and the sum, with the first entry counted among those ahead and among those so far
 regroup : (x : Bool) (k t a l m : ℕ)
-    → cond x Fault (Sum (k + suc l) (t + (a + m))) ≡ cond x Fault (Sum (k + 1 + l) (t + a + m))
+    → cond x None (some_sum (k + suc l) (t + (a + m))) ≡ cond x None (some_sum (k + 1 + l) (t + a + m))
 regroup x k t a l m =
     let e : k + suc l ≡ k + 1 + l = omega arith in
     let f : t + (a + m) ≡ t + a + m = omega arith in
@@ -51,8 +41,8 @@ regroup x k t a l m =
 
 by_kind : (κ : Kind) (p b : Bool) (e : Entry) (es : List Entry) (k t : ℕ)
     → cond (bad_by κ p b (scan_bad (is_tentative κ) es))
-    Fault
-    (Sum (k + length (cond (is_end κ) [] (e ∷ upto es))) (t + total (cond (is_end κ) [] (e ∷ upto es))))
+    None
+    (some_sum (k + length (cond (is_end κ) [] (e ∷ upto es))) (t + total (cond (is_end κ) [] (e ∷ upto es))))
     ≡ after (step_by κ p b (blocks e)) es k t
 unfolding scan_from total
 by_kind End true b e es k t = refl
@@ -70,52 +60,76 @@ scan_step : (p : Bool) (e : Entry) (es : List Entry) (k t : ℕ) → scan_from p
 unfolding scan_from slot_step scan_bad upto
 scan_step p e es k t = by_kind (kind e) p (long_named e) e es k t
 
--- one turn of the loop, where s is what the slot at p says
-pub turn : (g : List ℕ) (p w left : ℕ) (owed : Bool) (k t : ℕ) (s : Step) → 0 < left
-    → s ≡ slot_step owed (take w (drop p g))
-    → scan_from owed (chunks left w (drop p g)) k t ≡ after s (chunks (left - 1) w (drop (p + w) g)) k t
-turn g p w left owed k t s h e =
-    rw (
-      chunks_step left w (drop p g) h,
-      scan_step owed (take w (drop p g)) (chunks (left - 1) w (drop w (drop p g))) k t,
-      drop-drop w p g,
-      e,
-    )
+-- the slots that are left of the words l
+abbrev pub slots_left : ℕ → List ℕ → List Entry
+slots_left w l = chunks (length l / w) w l
+
+module _ (w : ℕ) (e r l : List ℕ) (next : l ≡ e ++ r) (whole : length e ≡ w) (some : 0 < w) where
+  count_left : length l / w ≡ length r / w + 1
+  count_left =
+      let long : length l ≡ w + length r = ap length next ∙ length-append e r ∙ rw whole in
+      rw long (add-div_left (length r) some)
+
+  slots_step : slots_left w l ≡ e ∷ slots_left w r
+  slots_step =
+      let n : length l / w - 1 ≡ length r / w = omega (arith, count_left) in
+      chunks_step (length l / w) w l (omega (arith, count_left)) ∙ rw (n, next, take_at e r w whole, drop_at e r w whole)
+
+  -- one turn of the loop, where s is what the slot at hand says
+  pub turn : (owed : Bool) (k t : ℕ) (s : Step) → s ≡ slot_step owed e
+      → scan_from owed (slots_left w l) k t ≡ after s (slots_left w r) k t
+  turn owed k t s h = ap (λ es. scan_from owed es k t) slots_step ∙ scan_step owed e (slots_left w r) k t ∙ rw h
 
 -- no slot is left, and none was the marker
-pub no-slots : (left w : ℕ) (l : List ℕ) (owed : Bool) (k t : ℕ) → left ≤ 0 → Fault ≡ scan_from owed (chunks left w l) k t
+pub no_slots : (w : ℕ) (l : List ℕ) (owed : Bool) (k t : ℕ) → length l < w → None ≡ scan_from owed (slots_left w l) k t
 unfolding chunks scan_from scan_bad
-no-slots zero w l owed k t h = refl
-no-slots (suc n) w l owed k t h = absurd (omega arith)
+no_slots w l owed k t h = rw (div-eq_of_lt h)
 
 scan_start : (es : List Entry) → scan_from false es 0 0 ≡ scan_of es
 unfolding scan_from scan_of
 scan_start es = rw (zero-add (length (upto es)), zero-add (total (upto es)))
 
--- the loop's invariant: left slots are ahead, from word p on, after count entries of sum blocks in all
-pub record Scanning (g : List ℕ) (w left p count sum : ℕ) (owed : Bool) : Type 0 where
-  pub room : p + left * w ≤ 512
-  pub few : count + left ≤ slot_count w
+-- the loop's invariant: the slots of the words l are left, after count entries of sum blocks in all
+pub record Scanning (g : List ℕ) (w : ℕ) (l : List ℕ) (count sum : ℕ) (owed : Bool) : Type 0 where
+  pub few : count + length l / w ≤ slot_count w
   pub small : sum ≤ 65535 * count
-  pub same : scan_from owed (chunks left w (drop p g)) count sum ≡ scan_of (slots w g)
+  pub same : scan_from owed (slots_left w l) count sum ≡ scan_of (slots w g)
 
-pub starts : (g : List ℕ) (w : ℕ) → Scanning g w (slot_count w) 5 0 0 false
+pub starts : (g : List ℕ) (w : ℕ) → length g ≡ 512 → Scanning g w (drop 5 g) 0 0 false
 unfolding slots
-starts g w = record {
-  room = omega (arith, div-mul-le_self 507 w);
-  few = omega arith;
-  small = omega arith;
-  same = scan_start (chunks (slot_count w) w (drop 5 g));
-}
+starts g w h =
+    let long : length (drop 5 g) ≡ 507 = length-drop 5 g ∙ omega (arith, h) in
+    record {
+      few = rw long (omega arith);
+      small = omega arith;
+      same = rw long (scan_start (chunks (slot_count w) w (drop 5 g)));
+    }
 
--- the bounds of a scan that has met the marker
-pub bounded : (w left count sum : ℕ) → 0 < left → count + left ≤ slot_count w → sum ≤ 65535 * count
-    → (count < slot_count w) × (sum ≤ 507 * 65535)
-bounded w left count sum h few small = let d = div-le_self 507 w in (omega arith, omega arith)
+module _ {g : List ℕ} {w : ℕ} {l : List ℕ} {count sum : ℕ} {owed : Bool} (v : Scanning g w l count sum owed) where
+  module _ (e r : List ℕ) (next : l ≡ e ++ r) (whole : length e ≡ w) (some : 0 < w) where
+    pub bad : Bad ≡ slot_step owed e → Scanned None w g
+    bad s = record { is = sym (turn w e r l next whole some owed count sum Bad s) ∙ v.same; bounds = tt }
+
+    -- the marker takes a slot, so that entries are fewer than slots
+    pub ends : Marker ≡ slot_step owed e → Scanned (Some (record { count = count; blocks = sum })) w g
+    ends s = record {
+      is = sym (turn w e r l next whole some owed count sum Marker s) ∙ v.same;
+      bounds = (omega (arith, v.few, count_left w e r l next whole some), omega (arith, v.few, v.small, div-le_self 507 w));
+    }
+
+    pub goes : (n : ℕ) (t : Bool) → Next n t ≡ slot_step owed e → n ≤ 65535 → Scanning g w r (count + 1) (sum + n) t
+    goes n t s h = record {
+      few = omega (arith, v.few, count_left w e r l next whole some);
+      small = omega (arith, v.small);
+      same = sym (turn w e r l next whole some owed count sum (Next n t) s) ∙ v.same;
+    }
+
+  pub over : length l < w → Scanned None w g
+  over h = record { is = no_slots w l owed count sum h ∙ v.same; bounds = tt }
 
 -- for callers: what the bounds are where the scan has answered a sum
-pub sum_bounded : (r : Scan) (w count sum : ℕ) → r ≡ Sum count sum → Bounded r w → (count < slot_count w) × (sum ≤ 507 * 65535)
-sum_bounded r w count sum e h = rw e at h
+pub sum_bounded : (r : Option Sum) (w : ℕ) (s : Sum) → r ≡ Some s → Bounded r w → (s.count < slot_count w) × (s.blocks ≤ 507 * 65535)
+sum_bounded r w s e h = rw e at h
 
 -- where an empty entry is due, a slot that is no entry is bad
 pub due-bad : (k : Kind) (b : Bool) (n : ℕ) → is_permanent k ≡ false → is_empty k ≡ false → is_tentative k ≡ false → Bad ≡ step_by k true b n

@@ -8,11 +8,8 @@ pub fn copy_words(source: &[u16], target: &mut [u16], place: usize)
     requires { place + length source.now ≤ length target.old }
     ensures { target.new ≡ paste target.old place source.now (length source.now) }
 {
-    let mut i: usize = 0;
-    while i < source.len() {
-        target[place + i] = source[i];
-        i += 1;
-    }
+    let end = place + source.len();
+    target[place..end].copy_from_slice(source);
 }
 
 // The same, with the place after the words as the answer: what a run of writes is made of.
@@ -24,18 +21,13 @@ pub fn put_words(source: &[u16], target: &mut [u16], place: usize) -> usize
     place + source.len()
 }
 
-// The words from `start` to `end`, moved up by so many places; those that they leave free stay as they were. The last word goes first,
-// so that none is written over before it is read.
+// The words from `start` to `end`, moved up by so many places; those that they leave free stay as they were.
 pub fn move_up(words: &mut [u16], start: usize, end: usize, by: usize)
     requires { (start ≤ end) × (end + by ≤ length words.old) }
     ensures { Written words.old (start + by) (take (end - start) (drop start words.old)) words.new
         (end + by) }
 {
-    let mut i: usize = end;
-    while start < i {
-        i -= 1;
-        words[i + by] = words[i];
-    }
+    words.copy_within(start..end, start + by);
 }
 
 // The words from `start` on, made 0.
@@ -44,9 +36,5 @@ pub fn clear_from(words: &mut [u16], start: usize)
     ensures { Written words.old start (replicate (length words.old - start) 0)
         words.new (length words.old) }
 {
-    let mut i: usize = start;
-    while i < words.len() {
-        words[i] = 0;
-        i += 1;
-    }
+    words[start..].fill(0);
 }

@@ -1,8 +1,10 @@
 // The first entry of a segment that is looked for, with its place in the directory.
-ghost use Rattle.std.specs.Prelude.{◌≡◌, ◌+◌, ◌≤◌, length, take, drop};
+ghost use Rattle.std.specs.Prelude.{◌≡◌, ◌≤◌, length};
 ghost use Rattle.meaning.specs.Keys.{holds};
 ghost use Rattle.segment.specs.Finder.{FoundIn};
 
+use crate::entries::entries_of;
+use crate::entry::Entry;
 use crate::kinds;
 use crate::naming::is_named;
 use meaning::Key;
@@ -20,31 +22,20 @@ pub struct Place {
     pub date: u16,
 }
 
-// Whether the slot that begins at this word is an entry of the key; the first test that fails decides. A file is asked for its name first,
-// which differs nearly always in its first word, whereas files and areas may alternate; and then for its kind, since a tentative entry
-// may have the same name. A channel is asked for its kind first: the channel word of a permanent entry means nothing.
-pub fn slot_keyed(segment: &[u16], word: usize, width: usize, key: Key) -> bool
-    requires { (7 ≤ width) × (word + width ≤ length segment.now) }
-    ensures { result ≡ holds key (take width (drop word segment.now)) }
+// Whether an entry is of the key; the first test that fails decides. A file is asked for its name first, which differs nearly always in its
+// first word, whereas files and areas may alternate; and then for its kind, since a tentative entry may have the same name. A channel is
+// asked for its kind first: the channel word of a permanent entry means nothing.
+pub fn slot_keyed(entry: &Entry<'_>, key: Key) -> bool
+    ensures { result ≡ holds key entry.now.words.now }
 {
     match key {
-        Key::File(name) => {
-            if !is_named(segment, word, width, name) {
-                return false;
-            }
-            kinds::is_permanent(segment[word])
-        }
-        Key::Open(channel) => {
-            if !kinds::is_tentative(segment[word]) {
-                return false;
-            }
-            segment[word + 5] == channel
-        }
+        Key::File(name) => is_named(entry, name) && kinds::is_permanent(entry.status()),
+        Key::Open(channel) => kinds::is_tentative(entry.status()) && entry.channel() == channel,
     }
 }
 
 // The first entry looked for in the segment of this number, whose words begin at word `base` of the directory and whose blocks
-// begin at `first`. Only what each slot needs is counted along, since a search passes thousands of them.
+// begin at `first`. Slot, word and block are counted along, so that no count is multiplied by a width.
 pub fn find_in(
     segment: &[u16],
     width: usize,
@@ -56,28 +47,24 @@ pub fn find_in(
     requires { (length segment.now ≡ 512) × (7 ≤ width) × (width ≤ 23) × (base ≤ 65536) × (first ≤ 65535) }
     ensures { FoundIn result segment.now width number base first key }
 {
-    let slots: usize = 507 / width;
-    let mut left: usize = slots;
-    let mut word: usize = 5;
+    let mut slot: usize = 1;
+    let mut at: usize = base + 5;
     let mut block: usize = first;
-    while 0 < left {
-        if kinds::is_marker(segment[word]) {
-            return None;
-        }
-        if slot_keyed(segment, word, width, key) {
+    for entry in entries_of(segment, width) {
+        if slot_keyed(&entry, key) {
             return Some(Place {
                 seg: number,
-                slot: slots - left + 1,
-                at: base + word,
+                slot,
+                at,
                 first: block,
-                status: segment[word],
-                length: segment[word + 4],
-                date: segment[word + 6],
+                status: entry.status(),
+                length: entry.blocks(),
+                date: entry.date(),
             });
         }
-        block += segment[word + 4] as usize;
-        word += width;
-        left -= 1;
+        slot += 1;
+        at += width;
+        block += entry.blocks() as usize;
     }
     None
 }

@@ -23,10 +23,7 @@ pub fn is_empty(status: u16) -> bool
 pub fn is_permanent(status: u16) -> bool
     ensures { result ≡ is_permanent (kind_of status) }
 {
-    if status == PERMANENT {
-        return true;
-    }
-    status == PROTECTED
+    status == PERMANENT || status == PROTECTED
 }
 
 pub fn is_protected(status: u16) -> bool
@@ -45,16 +42,7 @@ pub fn is_marker(status: u16) -> bool
 pub fn is_unreadable(status: u16) -> bool
     ensures { result ≡ is_unknown (kind_of status) }
 {
-    if is_permanent(status) {
-        return false;
-    }
-    if is_empty(status) {
-        return false;
-    }
-    if is_tentative(status) {
-        return false;
-    }
-    !is_marker(status)
+    !(is_permanent(status) || is_empty(status) || is_tentative(status) || is_marker(status))
 }
 
 // Any number that none of the tests takes is unknown, and rule 4 refuses it before the marker.

@@ -1,10 +1,10 @@
 -- `entries_of` meets its contract: the words behind the header hold the segment's slots, by `all_ahead`.
-use Prim.Native.Nat.{ℕ, ◌-◌, ◌≤◌}
+use Prim.Native.Nat.{ℕ, ◌-◌}
 use native.Mathlib.Omega.{arith}
 use mathlib.Core.List.{List}
 use Rattle.meaning.specs.Words.{slots, upto}
 use Rattle.walks.proofs.Slots.{entries-count, most-slots}
-use mathlib.Core.Path.{◌≡◌, sym, ap, ◌∙◌}
+use mathlib.Core.Path.{◌≡◌, sym, ap}
 use lib.ListN.{length, take, drop, length-drop}
 use lib.Seq.{take-length}
 use Rattle.segment.specs.Entries.{ahead}

@@ -1,69 +1,55 @@
--- `scan_slots` meets its contract: the loop keeps `Scanning`, that the slots still ahead give what all slots give, and its
--- measure is the slots left. Each way through the body is one case of `turn`.
+-- `scan_slots` meets its contract: each way through the loop's body is one case of what the slot at hand says.
 use native.Mathlib.Omega.{arith}
-use mathlib.Core.Path.{sym, ◌∙◌}
-use native.Mathlib.Nat.{div-le_self}
-use Rattle.walks.proofs.Slots.{mul_less}
-use Rattle.segment.proofs.Scanning.{starts, turn, no-slots, bounded}
-use Rattle.segment.specs.declared.scan.Step.TheVariants.{Bad, Marker, Next}
+use mathlib.Core.Path.{◌≡◌, sym, ap, ◌∙◌}
+use mathlib.Core.List.{◌++◌}
+use lib.ListN.{length, drop, length-drop}
+use lib.Seq.{take-length}
+use Rattle.segment.specs.Steps.{slot_step}
+use Rattle.segment.proofs.Scanning.{starts, bad, ends, goes, over}
+use Rattle.segment.proofs.scan.scan_slots.Goals.{After-slot_step}
 use Rattle.segment.proofs.scan.scan_slots.Goals as goal
 
-pub loop-left-init : goal.loop-left-init
-loop-left-init c = starts c.args.segment.now c.args.width
+-- what the code says of the slot at hand is said of the words that the iterator gave
+said : (c : After-slot_step) → c.slot_step.result ≡ slot_step c.loop-words.owed c.in-Some.words.now
+said c = c.slot_step.ensures ∙ ap (λ b. slot_step c.loop-words.owed b.now) c.new.ensures
 
-pub slot_step-step-requires : goal.slot_step-step-requires
-slot_step-step-requires c =
-    omega (arith, mul_less c.loop-left.left c.args.width c.loop-left-test.true)
+pub loop-words-init : goal.loop-words-init
+loop-words-init c =
+    let a = c.args in
+    let g = a.segment.now in
+    let e = c.into_iter-words-iterator.ensures.into_iter_gives in
+    let words : c.into_iter-words-iterator.result.rest.now ≡ drop 5 g =
+    ap (λ i. i.rest.now) e ∙ c.chunks_exact-words-items.ensures.rest ∙ rw (← length-drop 5 g) (take-length (drop 5 g)) in
+    record {
+      size = ap (λ i. i.size) e ∙ c.chunks_exact-words-items.ensures.size;
+      scanning = rw words (starts g a.width c.requires.0);
+    }
+
+-- what the iterator gave: a slot in front of the words that are left
+gave : (c : After-slot_step)
+    → (c.loop-words.words-iterator.rest.now ≡ c.in-Some.words.now ++ c.next.new.self.rest.now) × (length c.in-Some.words.now ≡ c.args.width)
+gave c = let steps = c.in-Some.ensures.steps in (steps.1.0, steps.1.1 ∙ c.loop-words.invariant.size)
 
 pub returns-in-Bad : goal.returns-in-Bad
 returns-in-Bad c =
-    let a = c.args in
-    let l = c.loop-left in
-    let h = c.loop-left-test.true in
-    let e =
-    turn a.segment.now l.word a.width l.left l.owed l.count l.sum Bad h
-    (sym c.in-Bad.is ∙ c.slot_step-step.ensures) in
-    record { is = sym e ∙ l.invariant.same; bounds = tt }
+    let d = (goal.at.returns-in-Bad c).After-slot_step in
+    let g = gave d in
+    bad c.loop-words.invariant.scanning _ _ g.0 g.1 (omega arith) (sym c.in-Bad.is ∙ said d)
 
 pub returns-in-Marker : goal.returns-in-Marker
 returns-in-Marker c =
-    let a = c.args in
-    let l = c.loop-left in
-    let h = c.loop-left-test.true in
-    let e =
-    turn a.segment.now l.word a.width l.left l.owed l.count l.sum Marker h
-    (sym c.in-Marker.is ∙ c.slot_step-step.ensures) in
+    let d = (goal.at.returns-in-Marker c).After-slot_step in
+    let g = gave d in
+    ends c.loop-words.invariant.scanning _ _ g.0 g.1 (omega arith) (sym c.in-Marker.is ∙ said d)
+
+pub loop-words-preserved : goal.loop-words-preserved
+loop-words-preserved c =
+    let d = (goal.at.loop-words-preserved c).After-slot_step in
+    let g = gave d in
     record {
-      is = sym e ∙ l.invariant.same;
-      bounds = bounded a.width l.left l.count l.sum h l.invariant.few l.invariant.small;
-    }
-
-pub overflow_add-count : goal.overflow_add-count
-overflow_add-count c = omega (arith, div-le_self 507 c.args.width)
-
-pub overflow_add-sum : goal.overflow_add-sum
-overflow_add-sum c = omega (arith, div-le_self 507 c.args.width)
-
-pub loop-left-preserved : goal.loop-left-preserved
-loop-left-preserved c =
-    let a = c.args in
-    let l = c.loop-left in
-    let h = c.loop-left-test.true in
-    let e =
-    turn a.segment.now l.word a.width l.left l.owed l.count l.sum (Next c.in-Next.blocks c.in-Next.tentative) h
-    (sym c.in-Next.is ∙ c.slot_step-step.ensures) in
-    record {
-      room = omega (arith, mul_less l.left a.width h);
-      few = omega arith;
-      small = omega arith;
-      same = sym e ∙ l.invariant.same;
+      size = c.in-Some.ensures.steps.0 ∙ c.loop-words.invariant.size;
+      scanning = goes c.loop-words.invariant.scanning _ _ g.0 g.1 (omega arith) _ _ (sym c.in-Next.is ∙ said d) (omega arith);
     }
 
 pub returns : goal.returns
-returns c =
-    let a = c.args in
-    let l = c.loop-left in
-    record {
-      is = no-slots l.left a.width _ l.owed l.count l.sum c.loop-left-test.false ∙ l.invariant.same;
-      bounds = tt;
-    }
+returns c = over c.loop-words.invariant.scanning (rw c.loop-words.invariant.size at c.in-None.ensures.steps.1.0)

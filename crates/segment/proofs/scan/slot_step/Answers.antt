@@ -1,11 +1,8 @@
--- `slot_step` meets its contract: the words read are the slot's own (`step_words`), and the slot has all that are read.
-use mathlib.Core.Path.{sym}
-use native.Mathlib.Omega.{arith}
-use Rattle.segment.proofs.Scanning.{step_words}
+-- `slot_step` meets its contract: what the entry says of its status, name and length is what the words say.
+use mathlib.Core.Path.{◌∙◌}
+use Rattle.segment.specs.Steps.{slot_step}
 use Rattle.segment.proofs.scan.slot_step.Goals as goal
 
 pub returns : goal.returns
-returns c =
-    let a = c.args in
-    let e = step_words a.segment.now a.word a.width a.owed (omega arith) in
-    rw (c.step_by.ensures, c.name_at-name.ensures) (sym e)
+unfolding slot_step
+returns c = c.step_by.ensures ∙ rw (c.status.ensures, c.name.ensures, c.blocks-2.ensures)

@@ -1,10 +1,9 @@
 -- `next` meets its contract: each way out is one of the laws of the entries ahead.
 use native.Mathlib.Omega.{arith}
-use mathlib.Core.Path.{◌≡◌, refl, sym, ap, ◌∙◌}
+use mathlib.Core.Path.{◌≡◌, sym, ap, ◌∙◌}
 use mathlib.Core.Bool.{false}
-use mathlib.Core.List.{List, ◌∷◌}
-use Prim.Native.Nat.{ℕ, ◌≤◌, ◌<◌}
-use lib.ListN.{length, get_or, take, drop}
+use mathlib.Core.List.{◌∷◌}
+use lib.ListN.{length, get_or, take}
 use Rattle.meaning.specs.Kinds.{kind_of, is_end}
 use Rattle.segment.specs.Entries.{ahead}
 use Rattle.segment.proofs.Passing.{none_ahead, marker_ahead, entry_ahead}
