@@ -5,6 +5,7 @@ use mathlib.Core.Path.{◌≡◌, refl, ap, ◌∙◌}
 use mathlib.Core.Bool.{true, ◌&&◌}
 use mathlib.Core.List.{List, ◌∷◌}
 use native.Mathlib.Omega.{arith}
+use native.Mathlib.Nat.{sub-zero}
 use lib.ListN.{length, get_or, take, drop}
 use lib.Dec.{leb, eqb}
 use Rattle.meaning.specs.Words.{segment, total_of, extra_bytes_of, highest, chain_from}
@@ -69,3 +70,31 @@ next (suc n) d s c h e =
 -- the chain from there on, by the link that code reads
 pub chain_next : (n : ℕ) (d : List ℕ) (s : ℕ) → 0 < n → chain_from n d s ≡ s ∷ chain_from (n - 1) d (link_at d s)
 chain_next n d s h = chain_step n d s h ∙ ap (λ (k : ℕ). s ∷ chain_from (n - 1) d k) (header d s 1 (omega arith))
+
+-- the word k of the part of the slice that is segment s
+pub part_word : (d : List ℕ) (s k : ℕ) → k < 512 → get_or (take (base s + 512 - base s) (drop (base s) d)) k 0 ≡ get_or d (base s + k) 0
+part_word d s k h = rw (part-is d s) (header d s k h)
+
+-- the place of a walk along right links where k segments have passed: segment s is the next of them, if any is left
+pub record Here (d : List ℕ) (k s : ℕ) : Type 0 where
+  pub links : linked (highest d - k) d s ≡ true
+  pub low : k < highest d → 1 ≤ s
+  pub inside : k < highest d → 512 * s ≤ length d
+
+here : (d : List ℕ) (k s : ℕ) → Chained d → linked (highest d - k) d s ≡ true → Here d k s
+here d k s c e = record {
+  links = e;
+  low = λ h. (next (highest d - k) d s c (omega arith) e).low;
+  inside = λ h. (next (highest d - k) d s c (omega arith) e).inside;
+}
+
+pub here-first : {d : List ℕ} → Chained d → Here d 0 1
+here-first {d = d} c = here d 0 1 c (rw (sub-zero (highest d)) c.links)
+
+-- one turn less is left
+pub one-less : (n k : ℕ) → n - (k + 1) ≡ n - k - 1
+one-less n k = omega arith
+
+pub here-next : {d : List ℕ} {k s : ℕ} → Chained d → Here d k s → k < highest d → Here d (k + 1) (link_at d s)
+here-next {d = d} {k = k} {s = s} c p h =
+    here d (k + 1) (link_at d s) c (rw (one-less (highest d) k) (next (highest d - k) d s c (omega arith) p.links).rest)

@@ -1,3 +1,4 @@
 pub mod Chained
 pub mod Head
 pub mod Measure
+pub mod Told

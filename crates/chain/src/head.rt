@@ -10,19 +10,7 @@ pub fn size_wrong(v: usize, len: usize) -> bool
     ensures { result ≡ size_wrong v len }
 {
     let segments = len / 512;
-    if segments < 1 {
-        return true;
-    }
-    if 31 < segments {
-        return true;
-    }
-    if len != 512 * segments {
-        return true;
-    }
-    if v < 6 + 2 * segments {
-        return true;
-    }
-    65535 < v
+    segments < 1 || 31 < segments || len != 512 * segments || v < 6 + 2 * segments || 65535 < v
 }
 
 // Rule 2, of segment 1's words. Four words are enough to ask, so that it asks for no more of rule 1 than it needs.
@@ -33,17 +21,9 @@ pub fn head_wrong(d: &[u16]) -> bool
     let segments = d.len() / 512;
     let highest = d[2] as usize;
     let extra_bytes = d[3];
-    if d[0] as usize != segments {
-        return true;
-    }
-    if highest < 1 {
-        return true;
-    }
-    if segments < highest {
-        return true;
-    }
-    if extra_bytes % 2 != 0 {
-        return true;
-    }
-    32 < extra_bytes
+    d[0] as usize != segments
+        || highest < 1
+        || segments < highest
+        || extra_bytes % 2 != 0
+        || 32 < extra_bytes
 }

@@ -1,12 +1,10 @@
 -- `links_right` meets its contract. The loop's invariant: the walk from here, over the segments left, is right just where the whole
--- walk is. Each return is one test of a turn that fails, and the measure is the segments left. Assumes nothing.
+-- walk is.
 use mathlib.Core.Path.{◌≡◌}
-use lib.ListN.{get_or}
+use Prim.Native.Nat.{◌-◌}
+use Rattle.meaning.specs.Words.{highest}
 use Rattle.walks.specs.Links.{linked}
 use Rattle.chain.proofs.links_right.Given as goal
 
-abbrev pub invariant-loop-left : goal.invariant-loop-left
-invariant-loop-left l = linked l.left l.d l.segment ≡ linked (get_or l.d 2 0) l.d 1
-
-abbrev pub decreases-loop-left : goal.decreases-loop-left
-decreases-loop-left l = l.left
+abbrev pub invariant-loop : goal.invariant-loop
+invariant-loop l = linked (highest l.d - l.counter) l.d l.segment ≡ linked (highest l.d) l.d 1
