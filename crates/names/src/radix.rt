@@ -11,6 +11,9 @@ const ALPHABET: [u8; 40] = [
     b'2', b'3', b'4', b'5', b'6', b'7', b'8', b'9',
 ];
 
+// The largest word that spells three characters.
+const LAST_WORD: u16 = 63999;
+
 // The three words of a text: number 0, or 7 and zeros. A number and no Option: docs/MANUAL.md gives the answer by it, and the theorem
 // `text-words-text` of proofs/Names.antt speaks of these fields.
 #[derive(Clone, Copy)]
@@ -82,7 +85,7 @@ fn is_legal_text(text: &[u8]) -> bool
     text.len() == 9 && in_name(text[0]) && is_padded(&text[..6]) && is_padded(&text[6..])
 }
 
-// The word of three characters of a legal text.
+// The word of three characters of a legal text. Text and place, and no slice of the three: what is asked is that the whole text is legal.
 fn pack_at(text: &[u8], at: usize) -> u16
     requires { (legal_text text.now ≡ true) × (at + 2 < 9) }
     ensures { result ≡ packed_at text.now at }
@@ -128,7 +131,7 @@ pub fn words_of_text(text: &[u8]) -> NameWords
 pub fn text_of_words(first: u16, second: u16, extension: u16) -> NameText
     ensures { result ≡ text_of_words first second extension }
 {
-    if first > 63999 || second > 63999 || extension > 63999 {
+    if first > LAST_WORD || second > LAST_WORD || extension > LAST_WORD {
         return NameText {
             number: 7,
             text: [b' '; 9],
