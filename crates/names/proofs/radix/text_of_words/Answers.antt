@@ -4,7 +4,7 @@ use Rattle.std.proofs.lemmas.Bool.Decides.{nat_tests}
 use Rattle.names.specs.Radix.{text_of_words, text_of, spelled, spells}
 use Rattle.names.proofs.radix.text_of_words.Goals as goal
 
-pub returns-then-first-gt-LAST_WORD : goal.returns-then-first-gt63999
+pub returns-then-first-gt-LAST_WORD : goal.returns-then-first-gt-LAST_WORD
 unfolding text_of_words spells
 returns-then-first-gt-LAST_WORD c = grind (arith, nat_tests)
 
