@@ -45,23 +45,29 @@ changes-found b (e ∷ es) =
     (has_zero (is_tentative (kind e)) es))
 
 -- from the start, where nothing stands before
-pub untidy-found : (es : List Entry) → meets (kind_of 0) es ≡ untidy es
+untidy-found : (es : List Entry) → meets (kind_of 0) es ≡ untidy es
 unfolding untidy kind_of
 untidy-found es = changes-found (kind_of 0) es
 
--- the walk, where the entries es are ahead, after one of the kind b, and r is what is met among all
-module _ {b : Kind} {es : List Entry} {r : Bool} (v : meets b es ≡ r) where
+-- the walk: the entries es are ahead, after one of the kind b, and r is what is met among all
+pub record Looking (b : Kind) (es : List Entry) (r : Bool) : Type 0 where
+  pub same : meets b es ≡ r
+
+pub starts : (es : List Entry) → Looking (kind_of 0) es (untidy es)
+starts es = record { same = untidy-found es }
+
+module _ {b : Kind} {es : List Entry} {r : Bool} (v : Looking b es r) where
   pub look_over : es ≡ [] → false ≡ r
   unfolding meets
-  look_over e = sym (ap (meets b) e) ∙ v
+  look_over e = sym (ap (meets b) e) ∙ v.same
 
   module _ (e : Entry) (others : List Entry) (next : es ≡ e ∷ others) where
     look_step : changes b (kind e) (blocks e) || meets (kind e) others ≡ r
     unfolding meets
-    look_step = sym (ap (meets b) next) ∙ v
+    look_step = sym (ap (meets b) next) ∙ v.same
 
     pub look_found : changes b (kind e) (blocks e) ≡ true → true ≡ r
     look_found f = rw f at look_step
 
-    pub look_on : changes b (kind e) (blocks e) ≡ false → meets (kind e) others ≡ r
-    look_on f = rw f at look_step
+    pub look_on : changes b (kind e) (blocks e) ≡ false → Looking (kind e) others r
+    look_on f = record { same = rw f at look_step }

@@ -38,7 +38,7 @@ fn put_run(entry: &Entry<'_>, sum: u16, out: &mut [u16], place: usize) -> usize
 // A run that ends, written to `out`: its first entry with the sum, or nothing.
 fn flush(run: RunAt<'_>, out: &mut [u16], place: usize) -> usize
     requires { place + length (left_of (run_of run)) ≤ length out.old }
-    ensures { Written out.old place (left_of (run_of run)) out.new result }
+    ensures { Written out.old place (left_of (run_of run.entry)) out.new result }
 {
     match run {
         RunAt::Calm(_) => place,
@@ -54,7 +54,7 @@ fn flush(run: RunAt<'_>, out: &mut [u16], place: usize) -> usize
 // What an entry lets out, written to `out`: an empty one waits in its run, and any other ends the run and follows it.
 fn pass_entry(entry: &Entry<'_>, run: RunAt<'_>, out: &mut [u16], place: usize) -> usize
     requires { place + length (out_of (run_of run) entry.now.words.now) ≤ length out.old }
-    ensures { Written out.old place (out_of (run_of run) entry.now.words.now) out.new result }
+    ensures { Written out.old place (out_of (run_of run.entry) entry.now.words.now) out.new result }
 {
     if kinds::is_empty(entry.status()) {
         return place;
@@ -66,7 +66,7 @@ fn pass_entry(entry: &Entry<'_>, run: RunAt<'_>, out: &mut [u16], place: usize) 
 // Where the walk stands after an entry: an empty one joins the run or opens one.
 fn run_after<'a>(run: RunAt<'a>, entry: Entry<'a>) -> RunAt<'a>
     requires { sum_of (run_of run) + blocks entry.words.now ≤ 65535 }
-    ensures { run_of result ≡ after (run_of run) entry.words.now }
+    ensures { run_of result ≡ after (run_of run.entry) entry.entry.words.now }
 {
     if !kinds::is_empty(entry.status()) {
         return RunAt::Calm(kinds::is_tentative(entry.status()));
@@ -80,7 +80,7 @@ fn run_after<'a>(run: RunAt<'a>, entry: Entry<'a>) -> RunAt<'a>
 // The end of the entries: the last run, and the marker behind it.
 fn finish(run: RunAt<'_>, out: &mut [u16], place: usize)
     requires { place + length (left_of (run_of run)) < length out.old }
-    ensures { Finished out.old place (flushed (run_of run)) out.new }
+    ensures { Finished out.old place (flushed (run_of run.entry)) out.new }
 {
     let end = flush(run, out, place);
     out[end] = END;

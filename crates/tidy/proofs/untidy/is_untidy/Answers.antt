@@ -1,11 +1,11 @@
 -- `is_untidy` meets its contract: what is met among the entries still ahead is what is met among all.
 use mathlib.Core.Path.{sym, ◌∙◌}
-use Rattle.tidy.proofs.Looking.{untidy-found, look_over, look_found, look_on}
+use Rattle.tidy.proofs.Looking.{starts, look_over, look_found, look_on}
 use Rattle.tidy.proofs.untidy.is_untidy.Goals as goal
 
 pub loop-entry-init : goal.loop-entry-init
 loop-entry-init c =
-    rw (c.into_iter-entry-iterator.ensures.into_iter_gives, c.entries_of-entry-items.ensures.left) (untidy-found _)
+    rw (c.into_iter-entry-iterator.ensures.into_iter_gives, c.entries_of-entry-items.ensures.left) (starts _)
 
 pub returns-then-is_changed : goal.returns-then-is_changed
 returns-then-is_changed c =
