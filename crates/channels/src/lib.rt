@@ -15,8 +15,8 @@ use edits::change::{give_status, make_permanent};
 use find::find_entry;
 use find::found::{granted_with, is_protected, restate_found};
 use meaning::{CHANNEL_LIMIT, EMPTY, Granted, Key, Name, Refusal, is_spared};
+use segment::entry::Entry;
 use segment::finder::Place;
-use segment::naming::name_at;
 
 // Job 0 or 2, and a channel up to the limit.
 #[tactic(auto, unfolding(meaning::specs::Requests::good_channel, meaning::specs::Requests::channel_limit))]
@@ -83,7 +83,7 @@ fn close_at(d: &mut [u16], v: usize, word: u16, place: Place, size: u16) -> Resu
 {
     let width = 7 + (d[3] / 2) as usize;
     let next = place.at + width;
-    let name = name_at(d, place.at, width);
+    let name = Entry::new(&d[place.at..next]).name();
     let old = find_old(d, name);
     if is_protected(old) {
         return Err(Refusal::ProtectedFile);

@@ -11,7 +11,7 @@ ghost use Rattle.meaning.specs.Told.{told};
 ghost use Rattle.choice.specs.Asks.{size_by};
 ghost use Rattle.enter.specs.Entering.{any_untidy, Fits, placed_in, entering};
 
-use choice::choose::{Chosen, first_fit};
+use choice::choose::first_fit;
 use choice::size::{Asked, at_least, wanted_of};
 use insert::place::{Spot, enter_area};
 use meaning::{Granted, Name, Refusal};
@@ -35,8 +35,7 @@ fn place_file(d: &mut [u16], v: usize, untidy: bool, new: Tentative) -> Granted
     ensures { Meets (told (Ok result)) d.new (placed_in d.old new.name new.length new.channel new.date) }
 {
     tidy_if(d, v, untidy);
-    let chosen = first_fit(d, new.length as usize);
-    let Chosen::At(area) = chosen else {
+    let Some(area) = first_fit(d, new.length as usize) else {
         unreachable!()
     };
     let spot = Spot {
@@ -74,7 +73,7 @@ pub fn enter_file(
     if !areas.eligible {
         return Err(Refusal::NoRoom);
     }
-    let length = wanted_of(asked, areas.longest, areas.second) as u16;
+    let length = wanted_of(asked, areas.longest, areas.second);
     let new = Tentative {
         name,
         length,

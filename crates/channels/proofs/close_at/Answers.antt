@@ -1,11 +1,10 @@
 -- `close_at` meets its contract. What the place's words, the next slot and the sum ask for is the law `ready`; the writes of both steps
 -- are those of the meaning (`closed-words`), unless what was found is protected (`over-protected`).
 use native.Mathlib.Omega.{arith}
-use Prim.Native.Nat.{◌+◌}
 use mathlib.Core.Path.{◌≡◌, refl, sym, ap, ◌∙◌}
 use mathlib.Core.List.{List}
-use Prim.Native.Nat.{ℕ}
-use lib.ListN.{get_or}
+use Prim.Native.Nat.{ℕ, ◌+◌, ◌-◌}
+use lib.ListN.{get_or, take, drop}
 use Rattle.meaning.specs.Words.{slot_words, length_word, name_of}
 use Rattle.meaning.specs.Answers.{refuse, write}
 use Rattle.meaning.specs.Requests.{gives_way}
@@ -34,8 +33,10 @@ old-at : (f : After-find_old-old)
 old-at f =
     let s = start f in
     let d = s.args.d.now in
-    old-key d s.args.place s.requires.1.row (ready_at s) (slot_words d) (omega arith) _ _ f.name_at-name.ensures
-    f.find_old-old.ensures.is
+    let at = s.args.place.at in
+    let w : at + slot_words d - at ≡ slot_words d = omega arith in
+    let name = f.name-name.ensures ∙ ap (λ b. name_of b.now) f.new.ensures ∙ ap (λ (n : ℕ). name_of (take n (drop at d))) w in
+    old-key d s.args.place s.requires.1.row (ready_at s) (slot_words d) (omega arith) _ _ name f.find_old-old.ensures.is
 
 pub bounds-d-3 : goal.bounds-d-3
 bounds-d-3 c =
@@ -48,10 +49,16 @@ overflow_add-next c =
     let k = chained-at (goal.at.overflow_add-next c).Start in
     omega arith
 
-pub name_at-name-requires : goal.name_at-name-requires
-name_at-name-requires c =
-    let q = ready_at (goal.at.name_at-name-requires c).Start in
-    (omega arith, omega arith)
+pub offset_bounds-d-place : goal.offset_bounds-d-place
+offset_bounds-d-place c =
+    let q = ready_at (goal.at.offset_bounds-d-place c).Start in
+    let k = chained-at (goal.at.offset_bounds-d-place c).Start in
+    omega arith
+
+pub slice_bounds-new-end : goal.slice_bounds-new-end
+slice_bounds-new-end c =
+    let q = ready_at (goal.at.slice_bounds-new-end c).Start in
+    omega arith
 
 pub find_old-old-requires : goal.find_old-old-requires
 find_old-old-requires c = chained-at (goal.at.find_old-old-requires c).Start
