@@ -25,7 +25,7 @@ use Rattle.rules.proofs.Fine.{Okay, free, used, Fine, slots-fine}
 use Rattle.cursor.specs.Cursor.{first_slot, rows_at, step_at}
 use Rattle.cursor.specs.declared.Cursor.{Cursor}
 use Rattle.cursor.specs.declared.Seen.{Seen}
-use Rattle.cursor.specs.declared.Step.TheVariants.{Entry as Given, End}
+use Rattle.std.specs.Prelude.{Some, None}
 use Rattle.chain.proofs.Chains.{fault-chained}
 use Rattle.cursor.proofs.Walking.{On, on_stands, begins, from_start, passed, went, ended}
 use Rattle.lines.specs.Wrote.{Wrote, WroteAtMost}
@@ -130,13 +130,13 @@ show_none d b p s h {c} e =
 
 -- a step gives no more, or the next entry, whose row can be shown and is
 module _ {d b : List ℕ} {p : ℕ} {m : List ℕ} {c : Cursor} {next : ℕ} (g : Showing d b p m c next) where
-  pub show_all : step_at d c ≡ End → WroteAtMost 79236 b p (rows_text (rows d)) m next
+  pub show_all : step_at d c ≡ None → WroteAtMost 79236 b p (rows_text (rows d)) m next
   unfolding rows_text
   show_all e =
       let z = rw (ended g.on e, append-nil g.text) at g.same in
       record { wrote = rw (← z) g.wrote; short = omega (arith, g.room) }
 
-  module _ (seen : Seen) (to : Cursor) (e : step_at d c ≡ Given seen to) where
+  module _ (seen : Seen) (to : Cursor) (e : step_at d c ≡ Some (seen, to)) where
     pub show_less : length (rows_at d to) < length (rows_at d c)
     show_less = let w = went g.on seen to e in rw (w.is, w.ahead) (omega arith)
 

@@ -19,7 +19,7 @@ use Rattle.rules.proofs.Rows.{entry_of, entries-rows}
 use Rattle.cursor.specs.Cursor.{first_slot, rows_at, step_at}
 use Rattle.cursor.specs.declared.Cursor.{Cursor}
 use Rattle.cursor.specs.declared.Seen.{Seen}
-use Rattle.cursor.specs.declared.Step.TheVariants.{Entry as Given, End as Done}
+use Rattle.std.specs.Prelude.{Some, None}
 use Rattle.cursor.proofs.Walking.{On, begins, from_start, Went, went, ended}
 use Rattle.rows.specs.Rows.{IsSound, TotalsAfter, TotalsOf}
 use Rattle.rows.specs.declared.Totals.{Totals}
@@ -92,7 +92,7 @@ module _ {d : List ℕ} {c : Cursor} {t : Totals} (g : Summing d c t) where
       let f = kind_fits g.v d g.sound in
       (omega (arith, f is_permanent), omega (arith, f is_tentative), omega (arith, f is_empty))
 
-  pub sum-all : step_at d c ≡ Done → TotalsOf (all_entries d) t
+  pub sum-all : step_at d c ≡ None → TotalsOf (all_entries d) t
   unfolding blocks_of
   sum-all e =
       let f = sum_fits in
@@ -108,10 +108,10 @@ module _ {d : List ℕ} {c : Cursor} {t : Totals} (g : Summing d c t) where
       all : (is : Kind → Bool) (n : ℕ) {m : ℕ} → n + ahead is d c ≡ m → n ≡ m
       all is n {m} h = let z = rw (ended g.on e) at h in omega arith
 
-  pub sum_less : (seen : Seen) (to : Cursor) → step_at d c ≡ Given seen to → length (rows_at d to) < length (rows_at d c)
+  pub sum_less : (seen : Seen) (to : Cursor) → step_at d c ≡ Some (seen, to) → length (rows_at d to) < length (rows_at d c)
   sum_less seen to e = let w = went g.on seen to e in rw (w.is, w.ahead) (omega arith)
 
-  pub sum_more : (seen : Seen) (to : Cursor) {u : Totals} → step_at d c ≡ Given seen to → TotalsAfter t seen.kind seen.length u
+  pub sum_more : (seen : Seen) (to : Cursor) {u : Totals} → step_at d c ≡ Some (seen, to) → TotalsAfter t seen.kind seen.length u
       → Summing d to u
   unfolding blocks_of
   sum_more seen to {u} e k =

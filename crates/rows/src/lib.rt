@@ -8,7 +8,7 @@ ghost use Rattle.meaning.specs.Listing.{rows_text};
 ghost use Rattle.lines.specs.Wrote.{WroteAtMost};
 ghost use Rattle.rows.specs.Rows.{IsSound, Shown, seen_text, TotalsAfter, TotalsOf};
 
-use cursor::{Seen, Step};
+use cursor::Seen;
 use meaning::Kind;
 
 // The blocks of permanent, of tentative and of empty entries.
@@ -24,11 +24,10 @@ fn put_row(out: &mut [u8], at: usize, seen: Seen) -> usize
     requires { Shown seen × (at + 36 ≤ length out.old) }
     ensures { WroteAtMost 36 out.old at (seen_text seen) out.new result }
 {
-    let kind = seen.kind;
     lines::row_text(
         out,
         at,
-        kind,
+        seen.kind,
         seen.name.first,
         seen.name.second,
         seen.name.extension,
@@ -45,16 +44,11 @@ pub fn put_rows(out: &mut [u8], at: usize, d: &[u16]) -> usize
 {
     let mut here = cursor::start(d);
     let mut next = at;
-    loop {
-        let step = cursor::step_from(d, here);
-        match step {
-            Step::Entry(seen, past) => {
-                next = put_row(out, next, seen);
-                here = past;
-            }
-            Step::End => return next,
-        }
+    while let Some((seen, past)) = cursor::step_from(d, here) {
+        next = put_row(out, next, seen);
+        here = past;
     }
+    next
 }
 
 // The totals with one entry more. A marker and an unknown status have no blocks.
@@ -62,26 +56,21 @@ fn count_entry(totals: Totals, seen: Seen) -> Totals
     requires { (totals.files ≤ 65535) × (totals.opened ≤ 65535) × (totals.free ≤ 65535) }
     ensures { TotalsAfter totals seen.kind seen.length result }
 {
-    let kind = seen.kind;
     let blocks = seen.length as usize;
-    match kind {
+    match seen.kind {
         Kind::Tentative => Totals {
-            files: totals.files,
             opened: totals.opened + blocks,
-            free: totals.free,
+            ..totals
         },
         Kind::Empty => Totals {
-            files: totals.files,
-            opened: totals.opened,
             free: totals.free + blocks,
+            ..totals
         },
         Kind::Permanent => Totals {
             files: totals.files + blocks,
-            opened: totals.opened,
-            free: totals.free,
+            ..totals
         },
-        Kind::End => totals,
-        Kind::Unknown => totals,
+        Kind::End | Kind::Unknown => totals,
     }
 }
 
@@ -96,14 +85,9 @@ pub fn total_blocks(d: &[u16]) -> Totals
         opened: 0,
         free: 0,
     };
-    loop {
-        let step = cursor::step_from(d, here);
-        match step {
-            Step::Entry(seen, past) => {
-                sums = count_entry(sums, seen);
-                here = past;
-            }
-            Step::End => return sums,
-        }
+    while let Some((seen, past)) = cursor::step_from(d, here) {
+        sums = count_entry(sums, seen);
+        here = past;
     }
+    sums
 }

@@ -1,4 +1,5 @@
 -- `count_entry` meets its contract: each arm adds to the total of its kind (laws `count_open` to `count_unknown`).
+use mathlib.Core.Logic.{⊎_elim}
 use Rattle.rows.proofs.Sums.{count_open, count-free, count-file, count_end, count_unknown}
 use Rattle.rows.proofs.count_entry.Goals as goal
 
@@ -12,7 +13,4 @@ pub returns-in-Permanent : goal.returns-in-Permanent
 returns-in-Permanent c = let a = c.args in count-file a.totals a.seen.length c.in-Permanent.is
 
 pub returns-in-End : goal.returns-in-End
-returns-in-End c = let a = c.args in count_end a.totals a.seen.length c.in-End.is
-
-pub returns-in-Unknown : goal.returns-in-Unknown
-returns-in-Unknown c = let a = c.args in count_unknown a.totals a.seen.length c.in-Unknown.is
+returns-in-End c = let a = c.args in ⊎_elim (count_end a.totals a.seen.length) (count_unknown a.totals a.seen.length) c.in-End.is

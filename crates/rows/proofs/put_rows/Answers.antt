@@ -9,15 +9,15 @@ loop-seen-init c =
 
 pub put_row-next-requires : goal.put_row-next-requires
 put_row-next-requires c =
-    shown c.loop-seen.invariant _ _ (sym c.step_from-step.ensures ∙ c.in-Entry.is) c.requires.1
+    shown c.loop-seen.invariant _ _ (sym c.step_from.ensures ∙ c.in-Some.is) c.requires.1
 
 pub loop-seen-smaller : goal.loop-seen-smaller
 loop-seen-smaller c =
-    show_less c.loop-seen.invariant _ _ (sym c.step_from-step.ensures ∙ c.in-Entry.is)
+    show_less c.loop-seen.invariant _ _ (sym c.step_from.ensures ∙ c.in-Some.is)
 
 pub loop-seen-preserved : goal.loop-seen-preserved
 loop-seen-preserved c =
-    show_more c.loop-seen.invariant _ _ (sym c.step_from-step.ensures ∙ c.in-Entry.is) c.put_row-next.ensures
+    show_more c.loop-seen.invariant _ _ (sym c.step_from.ensures ∙ c.in-Some.is) c.put_row-next.ensures
 
-pub returns-in-End : goal.returns-in-End
-returns-in-End c = show_all c.loop-seen.invariant (sym c.step_from-step.ensures ∙ c.in-End.is)
+pub returns : goal.returns
+returns c = show_all c.loop-seen.invariant (sym c.step_from.ensures ∙ c.in_default.is)

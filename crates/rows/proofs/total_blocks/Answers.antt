@@ -12,11 +12,11 @@ count_entry-sums-requires c = sum_fits c.loop-seen.invariant
 
 pub loop-seen-smaller : goal.loop-seen-smaller
 loop-seen-smaller c =
-    sum_less c.loop-seen.invariant _ _ (sym c.step_from-step.ensures ∙ c.in-Entry.is)
+    sum_less c.loop-seen.invariant _ _ (sym c.step_from.ensures ∙ c.in-Some.is)
 
 pub loop-seen-preserved : goal.loop-seen-preserved
 loop-seen-preserved c =
-    sum_more c.loop-seen.invariant _ _ (sym c.step_from-step.ensures ∙ c.in-Entry.is) c.count_entry-sums.ensures
+    sum_more c.loop-seen.invariant _ _ (sym c.step_from.ensures ∙ c.in-Some.is) c.count_entry-sums.ensures
 
-pub returns-in-End : goal.returns-in-End
-returns-in-End c = sum-all c.loop-seen.invariant (sym c.step_from-step.ensures ∙ c.in-End.is)
+pub returns : goal.returns
+returns c = sum-all c.loop-seen.invariant (sym c.step_from.ensures ∙ c.in_default.is)
