@@ -7,7 +7,6 @@ use mathlib.Core.Logic.{◌⊎◌, inl, inr}
 use mathlib.Core.List.{List, [], ◌∷◌, ◌++◌, append-nil, append_assoc}
 use native.Mathlib.Omega.{arith}
 use lib.ListN.{length, take, set, replicate, length-append}
-use lib.Seq.{length-take-le}
 use borrow.Author.Tests.{eq-eqb, ne_eqb}
 use Rattle.meaning.specs.Kinds.{empty_status}
 use Rattle.meaning.specs.Words.{Entry, blocks}
@@ -29,9 +28,6 @@ left-none w p q e = rw (eq-eqb p q e)
 
 abbrev pub gap_array : ℕ → List ℕ
 gap_array n = set (set (replicate 23 0) 0 empty_status) 4 n
-
-pub gap_length : (w n : ℕ) → w ≤ 23 → length (take w (gap_array n)) ≡ w
-gap_length w n h = length-take-le w (gap_array n) (omega arith)
 
 pub left-some : (w p q : ℕ) → (p ≡ q → ⊥) → 7 ≤ w → w ≤ 23 → take w (gap_array (q - p)) ≡ left_words w p q
 unfolding left_over flat entry_of

@@ -101,20 +101,6 @@ module _ {v w left p : ℕ} {g : List ℕ} (ready : Packable v w left p g) where
         → Written (set o₁ 4 p) y₁ (packed_words w (first_of g) p es) o₂ y₂ → y₂ + length (left_words w f q) < 512
     left-room {o₁} {o₂} {y₁} {y₂} u₁ u₂ = rw left_is (omega (arith, words-room, header-end u₁, u₂.next))
 
-    pub still_whole : {o₁ o₂ o₃ : List ℕ} {y₁ y₂ y₃ : ℕ}
-        → Written (replicate 512 0) 0 (take 5 g) o₁ y₁
-        → Written (set o₁ 4 p) y₁ (packed_words w (first_of g) p es) o₂ y₂
-        → Written o₂ y₂ (left_words w f q) o₃ y₃
-        → length (set o₃ y₃ end_status) ≡ length g
-    still_whole {o₁} {o₂} {o₃} {y₁} {y₂} {y₃} u₁ u₂ u₃ =
-        length-set o₃ y₃ end_status
-        ∙ u₃.long
-        ∙ u₂.long
-        ∙ length-set o₁ 4 p
-        ∙ u₁.long
-        ∙ length-replicate {A = ℕ} 512 0
-        ∙ sym ready.walk.whole
-
     -- header, entries, what is left over, marker; and all of it copied back
     pub segment-made : {o₁ o₂ o₃ x : List ℕ} {y₁ y₂ y₃ : ℕ}
         → Written (replicate 512 0) 0 (take 5 g) o₁ y₁

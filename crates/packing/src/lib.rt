@@ -7,7 +7,7 @@ pub mod entries;
 pub mod moves;
 
 // Where a walk over a segment's entries comes to: the place of the next words in the segment's new words, that of the next move in the list, and
-// the next free block.
+// the next free block. Places beside slices, and no `Vec`, since there is no heap here.
 #[derive(Clone, Copy)]
 pub struct Place {
     pub at: usize,

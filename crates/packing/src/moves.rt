@@ -5,8 +5,7 @@ ghost use Rattle.packing.specs.Packs.{one_move};
 
 use segment::copying::put_words;
 
-// One move, where there are blocks that change place. The answer is the place after it. The list is lent with the place of the next move beside it,
-// since there is no heap.
+// One move, where there are blocks that change place. The answer is the place after it.
 pub fn put_move(list: &mut [u16], at: usize, stands: usize, place: usize, blocks: u16) -> usize
     requires { (place ≤ stands) × (stands ≤ 65535) × (at + length (one_move stands place blocks) ≤ length list.old) }
     ensures { Written list.old at (one_move stands place blocks) list.new result }

@@ -36,12 +36,6 @@ loop-entry-preserved c =
       moves = walk_next r.0 list_stepwise r.2 i.moves e _ next _ _ _ o.moves o.free;
     })
 
-pub shape_of-out : goal.shape_of-out
-shape_of-out c = c.loop-entry.invariant.entries.written.long
-
-pub shape_of-list : goal.shape_of-list
-shape_of-list c = c.loop-entry.invariant.moves.written.long
-
 pub returns : goal.returns
 returns c =
     let r = c.requires in
