@@ -12,18 +12,16 @@ use lib.Seq.{drop-drop, drop-cons, drop-length}
 use lib.Dec.{leb}
 use borrow.Author.Tests.{leb-true, leb-false, le-leb, not-true}
 use Rattle.bools.proofs.Bools.{both}
-use Rattle.meaning.specs.declared.Kind.{Kind}
 use Rattle.meaning.specs.Kinds.{kind_of, is_end}
-use Rattle.meaning.specs.declared.Name.{Name}
-use Rattle.meaning.specs.Words.{Row, segments, segment, slot_words, slot_count, name_of, kind, slots, upto, rows_in}
-use Rattle.walks.proofs.Words.{word, word0, base, header}
+use Rattle.meaning.specs.Words.{Row, segments, segment, slot_words, slot_count, kind, slots, upto, rows_in}
+use Rattle.walks.proofs.Words.{word0, base, header}
 use Rattle.walks.proofs.Slots.{mul_less, length-slots, at-chunks}
 use Rattle.cursor.specs.Cursor.{is_segment, inside, AtEntry, slot_place, slot_in, is_entry, row_in, on_entry, row_here, first_slot}
-use Rattle.cursor.specs.Cursor.{entries_here, rows_here, rows_from, rows_at, past, entry_step, first_step, step_at}
+use Rattle.cursor.specs.Cursor.{entries_here, rows_here, rows_from, rows_at, past, seen_past, entry_step, first_step, step_at}
+use Rattle.cursor.specs.declared.Seen.{Seen}
 use Rattle.cursor.specs.declared.Cursor.{Cursor}
-use Rattle.cursor.specs.declared.Step.{Step}
-use Rattle.cursor.specs.declared.Step.TheVariants.{Entry, End}
-use Rattle.chain.proofs.Links.{part-is, link_at}
+use Rattle.chain.proofs.Links.{part-is, link_at, one-less}
+use Rattle.std.specs.Prelude.{None}
 
 pub segment-is : (d : List ℕ) (s : ℕ) → is_segment d s ≡ true → (1 ≤ s) × (512 * s ≤ length d)
 unfolding is_segment
@@ -81,38 +79,12 @@ unfolding is_entry
 stands_by w g k marker wide l h e =
     rw (le-leb k (slot_count w) h, slot_is w g k l h, word0 g (slot_place w k) w (omega arith), e)
 
--- the entry that a step gives, by the words that code reads in the segment g
-pub sees : (w : ℕ) (g : List ℕ) (b : ℕ) (c : Cursor) (p : ℕ) (k : Kind) (n : Name) → 7 ≤ w → 1 ≤ c.slot → c.slot ≤ slot_count w
-    → p ≡ slot_place w c.slot
-    → k ≡ kind_of (get_or g p 0)
-    → n ≡ name_of (take w (drop p g))
-    → Entry
-    (record {
-      seg = c.seg;
-      slot = c.slot;
-      at = b + p;
-      first = c.first;
-      kind = k;
-      name = n;
-      length = get_or g (p + 4) 0;
-      channel = get_or g (p + 5) 0;
-      date = get_or g (p + 6) 0;
-    })
-    (record { seg = c.seg; slot = c.slot + 1; first = c.first + get_or g (p + 4) 0 })
-    ≡ entry_step (row_in w g b c)
-unfolding row_in
-sees w g b c p k n wide l h e f i =
-    let q = slot_place w c.slot in
-    rw (
-      f,
-      i,
-      e,
-      slot_is w g c.slot l h,
-      word0 g q w (omega arith),
-      word g q w 4 (omega arith),
-      word g q w 5 (omega arith),
-      word g q w 6 (omega arith),
-    )
+-- the words that code cuts out are those of the slot
+pub slot_cut : (w : ℕ) (g : List ℕ) (k p : ℕ) → 1 ≤ k → k ≤ slot_count w → p ≡ slot_place w k
+    → take (p + w - p) (drop p g) ≡ slot_in w g k
+slot_cut w g k p l h e =
+    let m : slot_place w k + w - slot_place w k ≡ w = omega arith in
+    rw (e, m, slot_is w g k l h)
 
 module _ (d : List ℕ) (c : Cursor) (s : AtEntry d c) where
   -- past the last slot there are no entries
@@ -207,60 +179,49 @@ module _ (d : List ℕ) (c : Cursor) (w : ℕ) (e : w ≡ slot_words d) where
   pub entry-part : {t : Bool} → t ≡ is_entry w part c.slot → t ≡ on_entry d c
   entry-part h = rw (e, part-is d c.seg) at h
 
-  pub row-part : {r : Step} → r ≡ entry_step (row_in w part (base c.seg) c) → r ≡ entry_step (row_here d c)
+  pub row-part : {r : Seen × Cursor} → r ≡ seen_past (row_in w part (base c.seg) c) → r ≡ seen_past (row_here d c)
   row-part h = rw (e, part-is d c.seg) at h
 
--- the walk's invariant: left segments are still to be asked, from here on
-pub record Stepping (d : List ℕ) (cursor : Cursor) (left : ℕ) (here : Cursor) : Type 0 where
+-- the walk's invariant: k of the 31 segments have been asked, and the rows from here on are those of the others
+pub record Stepping (d : List ℕ) (cursor : Cursor) (k : ℕ) (here : Cursor) : Type 0 where
   pub asked : inside d cursor ≡ true
   pub stands : AtEntry d here
-  pub few : left ≤ 31
-  pub same : rows_from left d here ≡ rows_at d cursor
+  pub same : rows_from (31 - k) d here ≡ rows_at d cursor
 
-pub steps : (d : List ℕ) (c : Cursor) → inside d c ≡ true → Stepping d c 31 c
+pub steps : (d : List ℕ) (c : Cursor) → inside d c ≡ true → Stepping d c 0 c
 unfolding rows_at
-steps d c e = record { asked = e; stands = standing d c e; few = omega arith; same = refl }
+steps d c e = record { asked = e; stands = standing d c e; same = refl }
 
--- what the walk answers where the rows are known
-answers : {d : List ℕ} {cursor : Cursor} {left : ℕ} {here : Cursor} (w : Stepping d cursor left here) (rs : List Row)
-    → rows_from left d here ≡ rs
-    → first_step rs ≡ step_at d cursor
-unfolding step_at
-answers w rs e = rw (w.asked, ← w.same, e)
+module _ {d : List ℕ} {cursor : Cursor} {k : ℕ} {here : Cursor} (w : Stepping d cursor k here) where
+  -- what the walk answers where the rows are known
+  answers : (rs : List Row) → rows_from (31 - k) d here ≡ rs → first_step rs ≡ step_at d cursor
+  unfolding step_at
+  answers rs e = rw (w.asked, ← w.same, e)
 
-pub at_entry : {d : List ℕ} {cursor : Cursor} {left : ℕ} {here : Cursor} → Stepping d cursor left here → 0 < left
-    → on_entry d here ≡ true
-    → entry_step (row_here d here) ≡ step_at d cursor
-at_entry {d} {cursor} {left} {here} w h e =
-    sym (from-entry d here w.stands left h e) ∙ answers w (rows_from left d here) refl
+  pub at_none : 31 ≤ k → None ≡ step_at d cursor
+  unfolding rows_from
+  at_none h =
+      let z : 31 - k ≡ 0 = omega arith in
+      answers [] (rw z)
 
-pub at_last : {d : List ℕ} {cursor : Cursor} {left : ℕ} {here : Cursor} → Stepping d cursor left here → 0 < left
-    → on_entry d here ≡ false
-    → is_segment d (link_at d here.seg) ≡ false
-    → End ≡ step_at d cursor
-at_last {d} {cursor} {left} {here} w h e g = answers w [] (from_last d here w.stands left h e g)
+  module _ (h : k < 31) where
+    pub at_entry : on_entry d here ≡ true → entry_step (row_here d here) ≡ step_at d cursor
+    at_entry e = sym (from-entry d here w.stands (31 - k) (omega arith) e) ∙ answers (rows_from (31 - k) d here) refl
 
-pub at_none : {d : List ℕ} {cursor : Cursor} {left : ℕ} {here : Cursor} → Stepping d cursor left here → left ≤ 0
-    → End ≡ step_at d cursor
-unfolding rows_from
-at_none {d} {cursor} {left} {here} w h =
-    let z : left ≡ 0 = omega arith in
-    answers w [] (rw z)
+    pub at_last : on_entry d here ≡ false → is_segment d (link_at d here.seg) ≡ false → None ≡ step_at d cursor
+    at_last e g = answers [] (from_last d here w.stands (31 - k) (omega arith) e g)
 
--- the link is followed
-pub at-link : {d : List ℕ} {cursor : Cursor} {left : ℕ} {here : Cursor} (to : Cursor) → Stepping d cursor left here → 0 < left
-    → on_entry d here ≡ false
-    → is_segment d (link_at d here.seg) ≡ true
-    → (to ≡ first_slot d (link_at d here.seg)) × AtEntry d to
-    → Stepping d cursor (left - 1) to
-at-link {d} {cursor} {left} {here} to w h e g t = record {
-  asked = w.asked;
-  stands = t.1;
-  few = omega (arith, w.few);
-  same = rw t.0 (sym (from-link d here w.stands left h e g) ∙ w.same);
-}
+    -- the link is followed
+    pub at-link : (to : Cursor) → on_entry d here ≡ false → is_segment d (link_at d here.seg) ≡ true
+        → (to ≡ first_slot d (link_at d here.seg)) × AtEntry d to
+        → Stepping d cursor (k + 1) to
+    at-link to e g t = record {
+      asked = w.asked;
+      stands = t.1;
+      same = rw (one-less 31 k, t.0) (sym (from-link d here w.stands (31 - k) (omega arith) e g) ∙ w.same);
+    }
 
 -- a cursor that stands at no slot is at the end
-pub at-no-slot : (d : List ℕ) (c : Cursor) → inside d c ≡ false → End ≡ step_at d c
+pub at-no-slot : (d : List ℕ) (c : Cursor) → inside d c ≡ false → None ≡ step_at d c
 unfolding step_at
 at-no-slot d c e = rw e

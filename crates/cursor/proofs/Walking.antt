@@ -2,7 +2,7 @@
 -- fill the volume, so that none is above 65,535. From the start the rows ahead are all rows; a step gives the first row ahead; and
 -- past a row the rows ahead are those that followed it. Assumes nothing.
 use Prim.Native.Nat.{ℕ, zero, suc, ◌+◌, ◌-◌, ◌≤◌, ◌<◌}
-use mathlib.Core.Path.{◌≡◌, refl, sym, ◌∙◌}
+use mathlib.Core.Path.{◌≡◌, refl, sym, ap, ◌∙◌}
 use mathlib.Core.Bool.{Bool, true, false}
 use mathlib.Core.List.{List, [], ◌∷◌, ◌++◌}
 use mathlib.Core.Logic.{⊎_elim}
@@ -20,7 +20,7 @@ use Rattle.cursor.specs.Cursor.{is_segment, AtEntry, row_in, row_here, on_entry,
 use Rattle.cursor.specs.Cursor.{rows_from, rows_at, seen_of, past, first_step, step_at}
 use Rattle.cursor.specs.declared.Cursor.{Cursor}
 use Rattle.cursor.specs.declared.Seen.{Seen}
-use Rattle.cursor.specs.declared.Step.TheVariants.{Entry, End}
+use Rattle.std.specs.Prelude.{Some, None}
 use Rattle.chain.proofs.Links.{next}
 use Rattle.walks.proofs.Words.{header}
 use Rattle.walks.proofs.Filled.{filled_step, filled_le}
@@ -236,20 +236,21 @@ module _ {v : ℕ} {d : List ℕ} where
   passed o r rs e = turns o.left o r rs (omega arith) e
 
   -- for callers: a step at the end, and a step that gives an entry
-  pub ended : {c : Cursor} → On v d c → step_at d c ≡ End → rows_at d c ≡ []
+  pub ended : {c : Cursor} → On v d c → step_at d c ≡ None → rows_at d c ≡ []
   ended {c} o e = go (rows_at d c) (sym (step_on o) ∙ e)
     where
-      go : (rs : List Row) → first_step rs ≡ End → rs ≡ []
+      go : (rs : List Row) → first_step rs ≡ None → rs ≡ []
       go [] f = refl
       go (r ∷ rs) f = let z : ◌≡◌ {A = ℕ} 0 1 = cc in absurd (omega arith)
 
-  pub went : {c : Cursor} → On v d c → (seen : Seen) (to : Cursor) → step_at d c ≡ Entry seen to → Went v d c seen to
+  pub went : {c : Cursor} → On v d c → (seen : Seen) (to : Cursor) → step_at d c ≡ Some (seen, to) → Went v d c seen to
   went {c} o seen to e = go (rows_at d c) refl (sym (step_on o) ∙ e)
     where
-      go : (rs : List Row) → rows_at d c ≡ rs → first_step rs ≡ Entry seen to → Went v d c seen to
+      go : (rs : List Row) → rows_at d c ≡ rs → first_step rs ≡ Some (seen, to) → Went v d c seen to
       go [] f g = let z : ◌≡◌ {A = ℕ} 0 1 = cc in absurd (omega arith)
       go (r ∷ rs) f g =
           let p = passed o r rs f in
-          let i : to ≡ past r = cc in
-          let j : seen ≡ seen_of r = cc in
+          let same : ◌≡◌ {A = Seen × Cursor} (seen, to) (seen_of r, past r) = cc in
+          let i : to ≡ past r = ap (λ x. x.1) same in
+          let j : seen ≡ seen_of r = ap (λ x. x.0) same in
           record { row = r; rest = rs; is = f; seen_is = j; on = rw i p.on; ahead = rw i p.rest }

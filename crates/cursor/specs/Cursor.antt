@@ -1,13 +1,11 @@
 -- What the cursor promises: the rows from a cursor on, and a step as the first of them. Nothing is presumed of the words or of the
 -- cursor's numbers: a cursor that stands at no slot is at the end, and a link that names no segment is not followed.
-use Rattle.std.specs.Prelude.{ℕ, zero, suc, ◌+◌, ◌*◌, ◌-◌, ◌≤◌, Bool, cond, ◌&&◌, not, List, [], ◌∷◌, ◌++◌, length, get_or, drop, leb}
+use Rattle.std.specs.Prelude.{ℕ, zero, suc, ◌+◌, ◌*◌, ◌-◌, ◌≤◌, Bool, cond, ◌&&◌, not, List, [], ◌∷◌, ◌++◌, length, get_or, drop, leb, Option, Some, None}
 use Rattle.meaning.specs.Kinds.{is_end}
 use Rattle.meaning.specs.Words.{segments, segment, link_of, slot_words, slot_count, kind, blocks, channel_of, date_of}
 use Rattle.meaning.specs.Words.{name_of, slots, upto, Row, rows_in}
 use Rattle.cursor.specs.declared.Cursor.{Cursor}
 use Rattle.cursor.specs.declared.Seen.{Seen}
-use Rattle.cursor.specs.declared.Step.{Step}
-use Rattle.cursor.specs.declared.Step.TheVariants.{Entry, End}
 
 -- segments are numbered from 1
 unfoldable pub is_segment : List ℕ → ℕ → Bool
@@ -100,12 +98,15 @@ abbrev pub past : Row → Cursor
 past r = record { seg = r.seg; slot = r.slot + 1; first = r.first + blocks r.entry }
 
 -- a step gives a row as its entry, and the cursor past it
-abbrev pub entry_step : Row → Step
-entry_step r = Entry (seen_of r) (past r)
+abbrev pub seen_past : Row → Seen × Cursor
+seen_past r = (seen_of r, past r)
 
-abbrev pub first_step : List Row → Step
-first_step [] = End
+abbrev pub entry_step : Row → Option (Seen × Cursor)
+entry_step r = Some (seen_of r, past r)
+
+abbrev pub first_step : List Row → Option (Seen × Cursor)
+first_step [] = None
 first_step (r ∷ rs) = entry_step r
 
-unfoldable pub step_at : List ℕ → Cursor → Step
-step_at d c = cond (inside d c) (first_step (rows_at d c)) End
+unfoldable pub step_at : List ℕ → Cursor → Option (Seen × Cursor)
+step_at d c = cond (inside d c) (first_step (rows_at d c)) None

@@ -5,11 +5,14 @@
 
 ghost use Rattle.std.specs.Prelude.{◌≡◌, ◌+◌, ◌*◌, ◌≤◌, length};
 ghost use Rattle.meaning.specs.Words.{slot_words, slot_count};
-ghost use Rattle.cursor.specs.Cursor.{AtEntry, is_segment, inside, slot_place, is_entry, row_in, first_slot, entry_step, step_at};
+ghost use Rattle.cursor.specs.Cursor.{AtEntry, is_segment, inside, slot_place, is_entry, row_in, first_slot, seen_past, step_at};
 
 use meaning::{Kind, Name};
+use segment::entry::Entry;
 use segment::kinds;
-use segment::naming::name_at;
+
+// A directory has no more.
+const MOST_SEGMENTS: usize = 31;
 
 // A segment, a slot in it, both counted from 1, and the first block of an entry that stands there.
 #[derive(Clone, Copy)]
@@ -33,13 +36,6 @@ pub struct Seen {
     pub date: u16,
 }
 
-// What a step gives: an entry and the cursor past it, or that there is no more.
-#[derive(Clone, Copy)]
-pub enum Step {
-    Entry(Seen, Cursor),
-    End,
-}
-
 // The words of a slot.
 fn width_of(d: &[u16]) -> usize
     requires { 4 ≤ length d.now }
@@ -52,26 +48,17 @@ fn width_of(d: &[u16]) -> usize
 fn is_segment(d: &[u16], number: usize) -> bool
     ensures { result ≡ is_segment d.now number }
 {
-    if number < 1 {
-        return false;
-    }
-    number <= d.len() / 512
+    1 <= number && number <= d.len() / 512
 }
 
 // Whether a cursor stands at a slot, or directly past the last one of its segment. No block is above 65,535.
 fn is_inside(d: &[u16], cursor: Cursor) -> bool
     ensures { result ≡ inside d.now cursor }
 {
-    if !is_segment(d, cursor.seg) {
-        return false;
-    }
-    if cursor.slot < 1 {
-        return false;
-    }
-    if 507 / width_of(d) + 1 < cursor.slot {
-        return false;
-    }
-    cursor.first <= 65535
+    is_segment(d, cursor.seg)
+        && 1 <= cursor.slot
+        && cursor.slot <= 507 / width_of(d) + 1
+        && cursor.first <= 65535
 }
 
 // The word of its segment where a slot begins.
@@ -87,38 +74,36 @@ fn on_entry(segment: &[u16], width: usize, slot: usize) -> bool
     requires { (length segment.now ≡ 512) × (7 ≤ width) × (1 ≤ slot) }
     ensures { result ≡ is_entry width segment.now slot }
 {
-    if 507 / width < slot {
-        return false;
-    }
-    !kinds::is_marker(segment[word_of(width, slot)])
+    slot <= 507 / width && !kinds::is_marker(segment[word_of(width, slot)])
 }
 
-// The entry at the cursor, whose segment begins at word `base` of the directory. Its length is added in a usize, so that no sum is
-// reduced by 65,536.
-fn see_entry(segment: &[u16], base: usize, width: usize, cursor: Cursor) -> Step
+// The entry at the cursor, whose segment begins at word `base` of the directory, and the cursor past it. Its length is added in a usize, so
+// that no sum is reduced by 65,536.
+fn see_entry(segment: &[u16], base: usize, width: usize, cursor: Cursor) -> (Seen, Cursor)
     requires { (length segment.now ≡ 512) × (base + 512 ≤ 18446744073709551615) × (7 ≤ width)
         × (1 ≤ cursor.slot) × (cursor.slot ≤ slot_count width) × (cursor.first ≤ 65535) }
-    ensures { result ≡ entry_step (row_in width segment.now base cursor) }
+    ensures { result ≡ seen_past (row_in width segment.now base cursor) }
 {
     let word = word_of(width, cursor.slot);
-    let length = segment[word + 4];
+    let entry = Entry::new(&segment[word..word + width]);
+    let length = entry.blocks();
     let seen = Seen {
         seg: cursor.seg,
         slot: cursor.slot,
         at: base + word,
         first: cursor.first,
-        kind: kinds::kind_of(segment[word]),
-        name: name_at(segment, word, width),
+        kind: kinds::kind_of(entry.status()),
+        name: entry.name(),
         length,
-        channel: segment[word + 5],
-        date: segment[word + 6],
+        channel: entry.channel(),
+        date: entry.date(),
     };
     let past = Cursor {
         seg: cursor.seg,
         slot: cursor.slot + 1,
         first: cursor.first + length as usize,
     };
-    Step::Entry(seen, past)
+    (seen, past)
 }
 
 // The cursor at the first slot of a segment.
@@ -137,42 +122,34 @@ fn first_slot(d: &[u16], number: usize) -> Cursor
 pub fn start(d: &[u16]) -> Cursor
     ensures { result ≡ first_slot d.now 1 }
 {
-    if d.len() < 5 {
-        return Cursor {
-            seg: 1,
-            slot: 1,
-            first: 0,
-        };
-    }
     Cursor {
         seg: 1,
         slot: 1,
-        first: d[4] as usize,
+        first: d.get(4).copied().unwrap_or(0) as usize,
     }
 }
 
-// One step. A segment may have no entries, so links are followed until there is one; at most 31 segments are asked, so that a loop
-// in the chain can't hold the step.
-pub fn step_from(d: &[u16], cursor: Cursor) -> Step
+// One step: an entry and the cursor past it, or nothing where there is no more. A segment may have no entries, so links are followed until
+// there is one; at most 31 segments are asked, so that a loop in the chain can't hold the step.
+pub fn step_from(d: &[u16], cursor: Cursor) -> Option<(Seen, Cursor)>
     ensures { result ≡ step_at d.now cursor }
 {
     if !is_inside(d, cursor) {
-        return Step::End;
+        return None;
     }
     let width = width_of(d);
     let mut here = cursor;
-    let mut left: usize = 31;
-    while 0 < left {
+    for _ in 0..MOST_SEGMENTS {
         let base = 512 * (here.seg - 1);
-        if on_entry(&d[base..base + 512], width, here.slot) {
-            return see_entry(&d[base..base + 512], base, width, here);
+        let segment = &d[base..base + 512];
+        if on_entry(segment, width, here.slot) {
+            return Some(see_entry(segment, base, width, here));
         }
-        let link = d[base + 1] as usize;
+        let link = segment[1] as usize;
         if !is_segment(d, link) {
-            return Step::End;
+            return None;
         }
         here = first_slot(d, link);
-        left -= 1;
     }
-    Step::End
+    None
 }

@@ -19,6 +19,7 @@ use Rattle.meaning.specs.Keys.{key_of, holds, once, clash}
 use Rattle.meaning.specs.Sound.{any, clashes}
 use Rattle.meaning.specs.declared.Key.{Key}
 use Rattle.directory.specs.Buckets.{numbered, seen, Places, bucket_of, bucket_on, bucket_at, latest, Threaded}
+use Rattle.directory.specs.Candidates.{has_key}
 use Rattle.directory.proofs.Clashing.{any-clash}
 use Rattle.walks.proofs.Keyed.{has-key}
 
@@ -115,9 +116,9 @@ module _ {d : List ℕ} {w : ℕ} {ps : List ℕ} {n : ℕ} {key : Key} {k : ℕ
         let e : j ≡ 0 = omega arith in
         rw (← v.same, e) (sym (and-false (once key)))
 
-    module _ (h : 0 < j) {found : Bool} (is : found ≡ holds key (take w (drop (get_or ps (n - j) 0) d))) where
+    module _ (h : 0 < j) {found : Bool} (is : found ≡ holds key (numbered d w ps n j)) where
       here : any (holds key) (seen d w ps n j) ≡ found || any (holds key) (seen d w ps n (j - 1))
-      unfolding any numbered
+      unfolding any
       here = rw (seen_step d w ps n j h, is)
 
       pub walk_hit : found ≡ true → {r : Bool} → r ≡ once key → r ≡ once key && any (holds key) (seen d w ps n k)
@@ -172,11 +173,10 @@ module _ {d : List ℕ} {w : ℕ} {ps : List ℕ} {n : ℕ} where
       sym (rw e at t.none)
 
   -- the next entry, which has this key: whether that is found among those before it, and may stand once, is whether it clashes with one
-  module _ (g : Places d w ps n) (k : ℕ) (l : k < n) {key : Key} (e : key_of (take w (drop (get_or ps (n - (k + 1)) 0) d)) ≡ some key) where
+  module _ (g : Places d w ps n) (k : ℕ) (l : k < n) {key : Key} (e : key_of (numbered d w ps n (k + 1)) ≡ some key) where
     met-clash : {found : Bool} → found ≡ once key && any (holds key) (seen d w ps n k)
         → any (clash (numbered d w ps n (k + 1))) (seen d w ps n k) ≡ found
-    unfolding numbered
-    met-clash h = any-clash key (take w (drop (get_or ps (n - (k + 1)) 0) d)) e (seen d w ps n k) ∙ sym h
+    met-clash h = any-clash key (numbered d w ps n (k + 1)) e (seen d w ps n k) ∙ sym h
 
     pub table-found : {found : Bool} → found ≡ once key && any (holds key) (seen d w ps n k) → found ≡ true
         → true ≡ clashes (seen d w ps n n)
@@ -188,7 +188,7 @@ module _ {d : List ℕ} {w : ℕ} {ps : List ℕ} {n : ℕ} where
 
     module _ {latests earlier : List ℕ} (t : Table d w ps n latests earlier k) {b : ℕ} (is : (b ≡ bucket_of key) × (b < 8192)) where
       in_bucket : b ≡ bucket_at d w ps n (k + 1)
-      unfolding bucket_at numbered
+      unfolding bucket_at
       in_bucket = is.0 ∙ sym (ap bucket_on e)
 
       heads_after : (x : ℕ) → x < 8192 → get_or (set latests b (k + 1)) x 0 ≡ latest d w ps n x (k + 1)
@@ -231,3 +231,16 @@ module _ {d : List ℕ} {w : ℕ} {ps : List ℕ} {n : ℕ} where
         threaded = record { most = omega arith; back = back-after };
         none = rw (seen_more d w ps n k, met-clash h, f) t.none;
       }
+
+-- an entry by its number, as code cuts it out, and that it has a key
+pub entry-is : (d : List ℕ) (w : ℕ) (ps : List ℕ) (n j : ℕ)
+    → let p = get_or ps (n - j) 0 in
+    take (p + w - p) (drop p d) ≡ numbered d w ps n j
+unfolding numbered
+entry-is d w ps n j =
+    let e : get_or ps (n - j) 0 + w - get_or ps (n - j) 0 ≡ w = omega arith in
+    rw e
+
+pub entry-keyed : {d : List ℕ} {w : ℕ} {ps : List ℕ} {n j : ℕ} → Places d w ps n → 1 ≤ j → j ≤ n → has_key (numbered d w ps n j) ≡ true
+unfolding numbered
+entry-keyed {n = n} {j = j} g l h = (g.all (n - j) (omega arith)).keyed

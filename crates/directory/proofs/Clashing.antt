@@ -1,74 +1,57 @@
 -- Rule 6 by keys. An entry without a key may be left out of a list: it clashes with none, and none with it. And one that has a key
 -- clashes with just the entries that have it too, if it may stand once, so that those of other keys need not be looked at. What `once`
 -- says of a key is nowhere asked. Assumes nothing.
-use Prim.Native.Nat.{ℕ, zero, suc, ◌+◌, ◌≤◌, ◌<◌}
-use mathlib.Core.Path.{◌≡◌, refl, sym, ◌∙◌}
+use Prim.Native.Nat.{ℕ, zero, suc, ◌<◌}
+use mathlib.Core.Path.{◌≡◌, refl, sym}
 use mathlib.Core.Bool.{Bool, true, false, cond, ◌&&◌, ◌||◌, and-false, true≢false, false≢true}
 use mathlib.Core.List.{List, [], ◌∷◌}
 use mathlib.Core.Option.{Option, none, some}
 use native.Mathlib.Omega.{arith}
-use lib.ListN.{get_or, take, drop}
+use lib.ListN.{get_or}
 use Rattle.bools.proofs.Bools.{both, never}
 use Rattle.meaning.specs.declared.Kind.{Kind}
 use Rattle.meaning.specs.declared.Kind.TheVariants.{Tentative, Empty, Permanent, End, Unknown}
 use Rattle.meaning.specs.declared.Key.{Key}
 use Rattle.meaning.specs.declared.Key.TheVariants.{File, Open}
-use Rattle.meaning.specs.Kinds.{kind_of, is_tentative, is_permanent}
-use Rattle.meaning.specs.Words.{Entry, name_of, channel_of}
+use Rattle.meaning.specs.Kinds.{is_tentative, is_permanent}
+use Rattle.meaning.specs.Words.{Entry, kind, name_of, channel_of}
 use Rattle.meaning.specs.Keys.{key_in, key_of, holds, once, clash_on, clash}
 use Rattle.meaning.specs.Sound.{any, clashes}
 use Rattle.walks.proofs.Lists.{none_any}
-use Rattle.walks.proofs.Words.{word, word0}
 use Rattle.walks.proofs.Keyed.{has-key}
 use Rattle.directory.specs.Candidates.{is_some, has_key, candidates}
 use Rattle.directory.specs.Buckets.{seen}
 
--- the slot at p by what code reads of it
-module _ (d : List ℕ) (p w : ℕ) (wide : 7 ≤ w) where
-  -- whether it has a key: it is permanent, or else tentative
-  by_kind : has_key (take w (drop p d)) ≡ is_permanent (kind_of (get_or d p 0)) || is_tentative (kind_of (get_or d p 0))
+-- an entry by what code reads of it: it has a key where it is permanent or tentative
+module _ (e : Entry) where
+  pub keyed-by : has_key e ≡ is_permanent (kind e) || is_tentative (kind e)
   unfolding has_key key_of
-  by_kind = rw (word0 d p w (omega arith)) (go (kind_of (get_or d p 0)))
+  keyed-by = go (kind e)
     where
-      go : (k : Kind) → is_some (key_in k (take w (drop p d))) ≡ is_permanent k || is_tentative k
+      go : (k : Kind) → is_some (key_in k e) ≡ is_permanent k || is_tentative k
       go Tentative = refl
       go Empty = refl
       go Permanent = refl
       go End = refl
       go Unknown = refl
 
-  pub key-permanent : {t : Bool} → t ≡ is_permanent (kind_of (get_or d p 0)) → t ≡ true → true ≡ has_key (take w (drop p d))
-  key-permanent e h = sym (by_kind ∙ (rw (← e, h)))
-
-  pub key_else : {t u : Bool} → t ≡ is_permanent (kind_of (get_or d p 0)) → t ≡ false → u ≡ is_tentative (kind_of (get_or d p 0))
-      → u ≡ has_key (take w (drop p d))
-  key_else e h f = f ∙ sym (by_kind ∙ (rw (← e, h)))
-
-  channel-is : get_or d (p + 5) 0 ≡ channel_of (take w (drop p d))
-  channel-is = sym (word d p w 5 (omega arith))
-
   -- the key of one that has any
-  pub open_key : (t : Bool) → t ≡ is_tentative (kind_of (get_or d p 0)) → t ≡ true
-      → key_of (take w (drop p d)) ≡ some (Open (get_or d (p + 5) 0))
+  pub open_key : is_tentative (kind e) ≡ true → key_of e ≡ some (Open (channel_of e))
   unfolding key_of
-  open_key t e h = rw (channel-is, word0 d p w (omega arith)) (go (kind_of (get_or d p 0)) (sym e ∙ h))
+  open_key h = go (kind e) h
     where
-      go : (k : Kind) → is_tentative k ≡ true → key_in k (take w (drop p d)) ≡ some (Open (channel_of (take w (drop p d))))
+      go : (k : Kind) → is_tentative k ≡ true → key_in k e ≡ some (Open (channel_of e))
       go Tentative h = refl
       go Empty h = absurd (false≢true h)
       go Permanent h = absurd (false≢true h)
       go End h = absurd (false≢true h)
       go Unknown h = absurd (false≢true h)
 
-  pub file-key : (t : Bool) → t ≡ is_tentative (kind_of (get_or d p 0)) → t ≡ false → has_key (take w (drop p d)) ≡ true
-      → key_of (take w (drop p d)) ≡ some (File (name_of (take w (drop p d))))
+  pub file-key : is_tentative (kind e) ≡ false → has_key e ≡ true → key_of e ≡ some (File (name_of e))
   unfolding has_key key_of
-  file-key t e h has =
-      rw (word0 d p w (omega arith))
-      (go (kind_of (get_or d p 0)) (sym e ∙ h) (rw (word0 d p w (omega arith)) at has))
+  file-key h has = go (kind e) h has
     where
-      go : (k : Kind) → is_tentative k ≡ false → is_some (key_in k (take w (drop p d))) ≡ true
-          → key_in k (take w (drop p d)) ≡ some (File (name_of (take w (drop p d))))
+      go : (k : Kind) → is_tentative k ≡ false → is_some (key_in k e) ≡ true → key_in k e ≡ some (File (name_of e))
       go Permanent h c = refl
       go Tentative h c = absurd (true≢false h)
       go Empty h c = absurd (false≢true c)

@@ -8,7 +8,7 @@ use mathlib.Core.List.{List, [], ◌∷◌, ◌++◌, map}
 use native.Mathlib.Omega.{arith}
 use native.Mathlib.Nat.{suc-mul, div-mul-le_self}
 use lib.ListN.{length, get_or, take, drop}
-use lib.Seq.{drop-drop, drop-cons, drop-length, get_or-take, length-take-le}
+use lib.Seq.{drop-drop, drop-cons, drop-length, get_or-take, length-take-le, take-length}
 use Rattle.meaning.specs.Kinds.{is_end}
 use Rattle.meaning.specs.Words.{Entry, highest, segment, kind, slot_words, slot_count, chunks, slots, upto, entries}
 use Rattle.meaning.specs.Words.{chain_from, chain, entries_of, all_entries}
@@ -16,7 +16,9 @@ use Rattle.walks.specs.Links.{linked}
 use Rattle.chain.specs.Chained.{Chained}
 use Rattle.chain.proofs.Links.{link_at, next}
 use Rattle.walks.proofs.Words.{base, header, slot-there}
-use Rattle.directory.specs.Candidates.{has_key, candidates, places_of, places_in, AllListed}
+use Rattle.meaning.specs.Sound.{clashes, bad6}
+use Rattle.directory.proofs.Clashing.{clashes-candidates, few-seen}
+use Rattle.directory.specs.Candidates.{has_key, candidates, places_of, places_in}
 use Rattle.directory.specs.Buckets.{numbered, seen, Candidate, Places}
 
 -- ps are the places of es, and all of these have a key
@@ -115,23 +117,22 @@ of_chain d c (suc n) s l =
     (of_slots d s w v.low v.inside (slot_count w) 5 (omega (arith, div-mul-le_self 507 w)))
     (of_chain d c n (link_at d s) h))
 
--- what the first pass leaves to the second
-module _ {d : List ℕ} {w : ℕ} {ps : List ℕ} {n : ℕ} (c : Chained d) (e : w ≡ slot_words d) (l : AllListed d ps n) where
-  long : n ≤ length ps
-  long = omega (arith, l.long, l.few)
-
-  of_all-entries : Of d w (take n ps) (candidates (all_entries d))
+-- what the first pass leaves to the second: the places of the entries that have a key
+module _ {d : List ℕ} {w : ℕ} {ps : List ℕ} (c : Chained d) (e : w ≡ slot_words d) (l : ps ≡ places_in d (chain d)) where
+  of_all-entries : Of d w ps (candidates (all_entries d))
   unfolding all_entries chain
-  of_all-entries = rw (e, l.same) (of_chain d c (highest d) 1 c.links)
+  of_all-entries = rw (e, l) (of_chain d c (highest d) 1 c.links)
 
-  pub listed-places : Places d w ps n
-  listed-places = record {
-    wide = omega arith;
-    short = c.few;
-    few = l.few;
-    long = l.long;
-    all = λ k h. rw (get_or-take n ps k 0 h) at (of_all of_all-entries k (rw (length-take-le n ps long) h));
-  }
+  pub listed-places : length ps ≤ 2232 → Places d w ps (length ps)
+  listed-places few = record { wide = omega arith; short = c.few; few = few; long = omega arith; all = of_all of_all-entries }
 
-  pub listed-seen : seen d w ps n n ≡ candidates (all_entries d)
-  listed-seen = seen_all d w ps n long ∙ of_at of_all-entries
+  listed-seen : seen d w ps (length ps) (length ps) ≡ candidates (all_entries d)
+  listed-seen = seen_all d w ps (length ps) (omega arith) ∙ rw (take-length ps) (of_at of_all-entries)
+
+  -- leaving out the entries without a key changes no clash
+  pub listed-clashes : clashes (seen d w ps (length ps) (length ps)) ≡ bad6 d
+  unfolding bad6
+  listed-clashes = ap clashes listed-seen ∙ clashes-candidates (all_entries d)
+
+  pub few-listed : length ps < 2 → false ≡ bad6 d
+  few-listed h = sym (few-seen d w ps (length ps) (length ps) h) ∙ listed-clashes

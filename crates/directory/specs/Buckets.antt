@@ -26,7 +26,7 @@ pub record Places (d : List ℕ) (w : ℕ) (ps : List ℕ) (n : ℕ) : Type 0 wh
   pub wide : 7 ≤ w
   pub short : length d ≤ 15872
   pub few : n ≤ 2232
-  pub long : length ps ≡ 2233
+  pub long : n ≤ length ps
   pub all : (k : ℕ) → k < n → Candidate d w (get_or ps k 0)
 
 -- the bucket of three words: their sum with three large odd factors, and of that the bits 32 to 44

@@ -1,12 +1,13 @@
 -- `is_segment` meets its contract: its two tests are the definition's.
-use borrow.Author.Tests.{lt-leb, le-leb}
+use Rattle.std.proofs.Common.{arith}
+use Rattle.std.proofs.lemmas.Bool.Decides.{nat_tests}
 use Rattle.cursor.specs.Cursor.{is_segment}
 use Rattle.cursor.proofs.is_segment.Goals as goal
 
-pub returns-then-number-lt1 : goal.returns-then-number-lt1
+pub returns-then-number-ge1 : goal.returns-then-number-ge1
 unfolding is_segment
-returns-then-number-lt1 c = rw (lt-leb 1 c.args.number c.if-number-lt1.true)
+returns-then-number-ge1 c = grind (arith, nat_tests)
 
-pub returns : goal.returns
+pub returns-else-number-ge1 : goal.returns-else-number-ge1
 unfolding is_segment
-returns c = rw (le-leb 1 c.args.number c.if-number-lt1.false)
+returns-else-number-ge1 c = grind (arith, nat_tests)

@@ -9,12 +9,12 @@ use Rattle.cursor.specs.Cursor.{is_entry}
 use Rattle.cursor.proofs.Stepping.{stands_by}
 use Rattle.cursor.proofs.on_entry.Goals as goal
 
-pub returns-then-width-slot : goal.returns-then-width-slot
-unfolding is_entry
-returns-then-width-slot c = let a = c.args in rw (lt-leb a.slot (slot_count a.width) c.if-width-slot.true)
-
-pub returns : goal.returns
-returns c =
+pub returns-then-slot-width : goal.returns-then-slot-width
+returns-then-slot-width c =
     let g = c.args.segment.now in
-    stands_by c.args.width g c.args.slot _ c.requires.1 c.requires.2 c.if-width-slot.false
+    stands_by c.args.width g c.args.slot _ c.requires.1 c.requires.2 c.if-slot-width.true
     (c.is_marker.ensures ∙ ap (λ (p : ℕ). is_end (kind_of (get_or g p 0))) c.word_of.ensures.0)
+
+pub returns-else-slot-width : goal.returns-else-slot-width
+unfolding is_entry
+returns-else-slot-width c = rw (lt-leb c.args.slot (slot_count c.args.width) c.if-slot-width.false)

@@ -1,34 +1,14 @@
--- `see_entry` meets its contract: the words read are those of the slot (`sees`), which lies in the segment.
-use native.Mathlib.Omega.{arith}
-use Prim.Native.Nat.{◌+◌, ◌≤◌}
-use lib.ListN.{get_or}
-use native.Mathlib.Nat.{div-le_self}
-use Rattle.cursor.proofs.Stepping.{sees}
-use Rattle.cursor.proofs.see_entry.Goals.{After-shared_slice_known-2-1}
+-- `see_entry` meets its contract: the words read are those of the slot (`slot_cut`), which lies in the segment.
+use mathlib.Core.Path.{◌≡◌, ap, ◌∙◌}
+use Rattle.cursor.specs.Cursor.{row_in, slot_in}
+use Rattle.cursor.proofs.Stepping.{slot_cut}
 use Rattle.cursor.proofs.see_entry.Goals as goal
 
--- its length is a word
-length-fits : (c : After-shared_slice_known-2-1)
-    → get_or c.args.segment.now (c.word_of-word.result + 4) 0 ≤ 65535
-length-fits c = omega (arith, c.type_inv.segment (c.word_of-word.result + 4))
-
-pub overflow_add-past : goal.overflow_add-past
-overflow_add-past c = omega (arith, div-le_self 507 c.args.width)
-
-pub overflow_cast-past : goal.overflow_cast-past
-overflow_cast-past c =
-    omega (arith, length-fits (goal.at.overflow_cast-past c).After-shared_slice_known-2-1)
-
-pub overflow_add-past-2 : goal.overflow_add-past-2
-overflow_add-past-2 c =
-    omega (arith, length-fits (goal.at.overflow_add-past-2 c).After-shared_slice_known-2-1)
-
 pub returns : goal.returns
+unfolding row_in
 returns c =
     let a = c.args in
     let q = c.requires in
-    let x = c.word_of-word in
-    let k = c.kind_of in
-    let n = c.name_at in
-    sees a.width a.segment.now a.base a.cursor x.result k.result n.result q.2 q.3 q.4
-    x.ensures.0 k.ensures n.ensures
+    let cut = slot_cut a.width a.segment.now a.cursor.slot c.word_of-word.result q.3 q.4 c.word_of-word.ensures.0 in
+    let words : c.new-entry.result.words.now ≡ slot_in a.width a.segment.now a.cursor.slot = ap (λ b. b.now) c.new-entry.ensures ∙ cut in
+    rw (c.kind_of.ensures, c.status.ensures, c.name.ensures, c.blocks-length.ensures, c.channel.ensures, c.date.ensures, words, c.word_of-word.ensures.0)

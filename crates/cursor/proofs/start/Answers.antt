@@ -1,20 +1,10 @@
--- `start` meets its contract: past the end of a short slice a word counts as 0.
-use native.Mathlib.Omega.{arith}
-use mathlib.Core.Path.{refl}
-use Prim.Native.Nat.{◌≤◌}
-use lib.ListN.{length, get_or-eq_default}
+-- `start` meets its contract: where the slice is too short the first block is 0, as of a word that is missing.
+use Rattle.std.proofs.Common.{arith}
+use Rattle.std.proofs.lemmas.Bool.Decides.{nat_tests}
+use Rattle.std.proofs.lemmas.Grind.{common_steps}
 use Rattle.cursor.specs.Cursor.{first_slot}
 use Rattle.cursor.proofs.start.Goals as goal
 
-pub returns-then-d-lt5 : goal.returns-then-d-lt5
-unfolding first_slot
-returns-then-d-lt5 c =
-    let e : length c.args.d.now ≤ 4 = omega arith in
-    rw (get_or-eq_default c.args.d.now 0 e)
-
-pub overflow_cast-result : goal.overflow_cast-result
-overflow_cast-result c = omega (arith, c.type_inv.d 4)
-
 pub returns : goal.returns
 unfolding first_slot
-returns c = refl
+returns c = grind (arith, nat_tests, common_steps)

@@ -1,14 +1,18 @@
 -- `has_key` meets its contract: a permanent entry has a key, and any other if it is tentative.
-use native.Mathlib.Omega.{arith}
-use Rattle.directory.proofs.Clashing.{key-permanent, key_else}
+use Rattle.std.proofs.Common.{arith}
+use Rattle.std.proofs.lemmas.Bool.Decides.{nat_tests}
+use Rattle.directory.proofs.Clashing.{keyed-by}
 use Rattle.directory.proofs.clashes.has_key.Goals as goal
 
 pub returns-then-is_permanent : goal.returns-then-is_permanent
 returns-then-is_permanent c =
-    let a = c.args in
-    key-permanent a.segment.now a.word a.width (omega arith) c.is_permanent.ensures c.if-is_permanent.true
+    let k = keyed-by c.args.entry.now.words.now in
+    let p = rw c.status.ensures at c.is_permanent.ensures in
+    grind (arith, nat_tests)
 
-pub returns : goal.returns
-returns c =
-    let a = c.args in
-    key_else a.segment.now a.word a.width (omega arith) c.is_permanent.ensures c.if-is_permanent.false c.is_tentative.ensures
+pub returns-else-is_permanent : goal.returns-else-is_permanent
+returns-else-is_permanent c =
+    let k = keyed-by c.args.entry.now.words.now in
+    let p = rw c.status.ensures at c.is_permanent.ensures in
+    let t = rw c.status-else-is_permanent.ensures at c.is_tentative.ensures in
+    grind (arith, nat_tests)
