@@ -5,20 +5,14 @@ ghost use Rattle.packing.specs.Packs.{one_move};
 
 use segment::copying::put_words;
 
-// One move, where there are blocks that change place. The answer is the place after it.
+// One move, where there are blocks that change place. The answer is the place after it. The list is lent with the place of the next move beside it,
+// since there is no heap.
 pub fn put_move(list: &mut [u16], at: usize, stands: usize, place: usize, blocks: u16) -> usize
     requires { (place ≤ stands) × (stands ≤ 65535) × (at + length (one_move stands place blocks) ≤ length list.old) }
     ensures { Written list.old at (one_move stands place blocks) list.new result }
 {
-    if stands == place {
+    if stands == place || blocks == 0 {
         return at;
     }
-    if blocks == 0 {
-        return at;
-    }
-    let mut words = [0u16; 3];
-    words[0] = stands as u16;
-    words[1] = place as u16;
-    words[2] = blocks;
-    put_words(&words, list, at)
+    put_words(&[stands as u16, place as u16, blocks], list, at)
 }

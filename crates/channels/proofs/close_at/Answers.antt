@@ -5,7 +5,7 @@ use Prim.Native.Nat.{◌+◌}
 use mathlib.Core.Path.{◌≡◌, refl, sym, ap, ◌∙◌}
 use mathlib.Core.List.{List}
 use Prim.Native.Nat.{ℕ}
-use lib.ListN.{length, get_or}
+use lib.ListN.{get_or}
 use Rattle.meaning.specs.Words.{slot_words, length_word, name_of}
 use Rattle.meaning.specs.Answers.{refuse, write}
 use Rattle.meaning.specs.Requests.{gives_way}
@@ -14,7 +14,7 @@ use Rattle.chain.specs.Chained.{Chained}
 use Rattle.chain.proofs.Chains.{fault-chained}
 use Rattle.channels.specs.Closing.{replacing_at}
 use Rattle.find.proofs.Behind.{over-protected}
-use Rattle.channels.proofs.Closes.{Ready, ready, old-key, closed-words, closed-over, closed_on_lem, inside_less}
+use Rattle.channels.proofs.Closes.{Ready, ready, old-key, closed-words, closed-over, closed_on_lem}
 use Rattle.channels.proofs.close_at.Goals.{After-find_old-old, Start}
 use Rattle.channels.proofs.close_at.Goals as goal
 
@@ -63,7 +63,7 @@ returns-then-is_protected c =
     let d = s.args.d.now in
     let o = s.requires.1 in
     let u = over-protected d (name_of o.row.entry) _ _ (old-at (goal.at.returns-then-is_protected c).After-find_old-old) (sym c.if-is_protected.true ∙ c.is_protected.ensures) in
-    rw (closed-over d s.args.word s.args.size s.args.place o u) (record { answer = c.refused.ensures; words = refl })
+    rw (closed-over d s.args.word s.args.size s.args.place o u) (record { answer = refl; words = refl })
 
 pub make_permanent-requires : goal.make_permanent-requires
 make_permanent-requires c =
@@ -73,14 +73,8 @@ make_permanent-requires c =
     let b : get_or s.args.d.now (s.args.place.at + length_word) 0 ≡ s.args.place.length = q.word 4 (omega arith) ∙ q.length' in
     (omega arith, omega arith, omega arith, omega arith)
 
-pub empty_old-requires : goal.empty_old-requires
-empty_old-requires c =
-    let d = (start (goal.at.empty_old-requires c).After-find_old-old).args.d.now in
-    inside_less c.find_old-old.result (slot_words d) (length d) _ (omega arith) (sym c.make_permanent.auto.words) c.find_old-old.ensures.inside
-
-pub answered_with-requires : goal.answered_with-requires
-answered_with-requires c =
-    (ready_at (start (goal.at.answered_with-requires c).After-find_old-old)).small
+pub granted_with-requires : goal.granted_with-requires
+granted_with-requires c = (ready_at (start (goal.at.granted_with-requires c).After-find_old-old)).small
 
 pub returns : goal.returns
 returns c =
@@ -91,8 +85,8 @@ returns c =
     let q = ready_at s in
     let u = over-protected d (name_of o.row.entry) _ _ (old-at (goal.at.returns c).After-find_old-old) (sym c.if-is_protected.false ∙ c.is_protected.ensures) in
     let w = ap (λ (z : List ℕ). write z (replacing_at c.find_old-old.result)) c.make_permanent.ensures in
-    rw (closed_on_lem d a.word a.size a.place o q u)
+    rw (closed_on_lem d a.word a.size a.place o q u, c.granted_with.ensures)
     (record {
-      answer = c.answered_with.ensures;
+      answer = refl;
       words = c.empty_old.ensures ∙ w ∙ closed-words d a.place o.row a.size _ q (old-at (goal.at.returns c).After-find_old-old);
     })

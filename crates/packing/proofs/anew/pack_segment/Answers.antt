@@ -42,9 +42,9 @@ bounds-out-end c =
     c.put_words-at.ensures c.pass_entries-place.ensures.0.written in
     omega (arith, o, c.put_left-end.ensures.next)
 
-pub copy_words-requires : goal.copy_words-requires
-copy_words-requires c =
-    let o = still_whole (ready (goal.at.copy_words-requires c).After-pass_entries-place) c.pass_entries-place.ensures.0.free c.end_of-last.ensures
+pub copy_from_slice-requires : goal.copy_from_slice-requires
+copy_from_slice-requires c =
+    let o = still_whole (ready (goal.at.copy_from_slice-requires c).After-pass_entries-place) c.pass_entries-place.ensures.0.free c.end_of-last.ensures
     c.put_words-at.ensures c.pass_entries-place.ensures.0.written
     c.put_left-end.ensures in
     omega (arith, o)
@@ -54,6 +54,6 @@ returns c = (
   segment-made (ready (goal.at.returns c).After-pass_entries-place) c.pass_entries-place.ensures.0.free c.end_of-last.ensures
       c.put_words-at.ensures c.pass_entries-place.ensures.0.written
       c.put_left-end.ensures
-      c.copy_words.ensures,
+      c.copy_from_slice.ensures.after,
   c.pass_entries-place.ensures.1.written,
 )

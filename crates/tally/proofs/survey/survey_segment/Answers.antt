@@ -15,12 +15,18 @@ overflow_add-entries c =
     let a = c.args in
     omega (arith, t.ensures.entries, c.last_count.ensures, last-small a.left t.result.free a.v)
 
-pub overflow_sub-width : goal.overflow_sub-width
-overflow_sub-width c =
+pub overflow_sub-room : goal.overflow_sub-room
+overflow_sub-room c =
     omega (arith, some-slot c.args.width c.requires.walk.wide c.requires.walk.narrow)
 
-pub returns : goal.returns
-returns c =
+pub returns-then-known : goal.returns-then-known
+returns-then-known c =
     let a = c.args in
     survey-made a.v a.width a.left a.segment.now a.known c.tally_segment-t.result c.last_count.result
-    c.is_over-over.result c.tally_segment-t.ensures c.last_count.ensures c.is_over-over.ensures
+    _ c.tally_segment-t.ensures c.last_count.ensures (simp c.if-known.true)
+
+pub returns-else-known : goal.returns-else-known
+returns-else-known c =
+    let a = c.args in
+    survey-made a.v a.width a.left a.segment.now a.known c.tally_segment-t.result c.last_count.result
+    _ c.tally_segment-t.ensures c.last_count.ensures (simp c.if-known.false)
