@@ -18,6 +18,7 @@ use Rattle.loads.specs.Memory.{limit, bytes_at}
 use Rattle.loads.specs.Writing.{block, full_blocks, short_block, load_file, save_answer, save_output}
 use Rattle.loads.proofs.Bytes.{length-bytes}
 use Rattle.loads.proofs.Trips.{length-block}
+use Rattle.loads.proofs.Laws.{by_fields}
 use Rattle.loadwrite.specs.Sizes.{file_size}
 
 -- lengths
@@ -96,11 +97,6 @@ pub a_file : {b o o' o'' : List ℕ} {y z x : ℕ} (m : List ℕ) (a n t : ℕ) 
     → Wrote o y (short_block m (a + n / 128 * 128) (n % 128)) o' z → Wrote o' z (block t []) o'' x → Wrote b 0 (load_file m a n t) o'' x
 unfolding load_file
 a_file m a n t u v w = both (both u v) w
-
--- an answer by its fields
-by_fields : (r : Saved) (n c : ℕ) → (r.number ≡ n) × (r.count ≡ c) → r ≡ record { number = n; count = c }
-by_fields r n c e =
-    ap {B = Saved} (λ x. record { number = x; count = r.count }) e.0 ∙ ap {B = Saved} (λ x. record { number = n; count = x }) e.1
 
 -- the ways out of `save`: a range outside the memory, too short a room, and the file made
 pub outside : (m out : List ℕ) (a n t : ℕ) (r : Saved) → limit m < a + n → (r.number ≡ 29) × (r.count ≡ 0)
