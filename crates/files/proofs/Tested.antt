@@ -3,6 +3,7 @@
 use Prim.Native.Nat.{ℕ, zero, suc, ◌<◌}
 use native.Mathlib.Omega.{arith}
 use mathlib.Core.Path.{◌≡◌, refl, ap, ◌∙◌}
+use mathlib.Core.Logic.{◌⊎◌, inl, inr}
 use mathlib.Core.Bool.{Bool, true, false, cond, not}
 use mathlib.Core.List.{List, [], ◌∷◌}
 use mathlib.Core.Option.{Option, none, some}
@@ -36,7 +37,19 @@ by_name d n next = go (legal n) (spared n)
     go true true = refl
     go true false = refl
 
--- a number that is not 0 refuses, and 0 lets pass
+-- which test refuses a name
+pub name-bad : (k : ℕ) (n : Name) → (k ≡ name_refusal n) × (0 < k)
+    → ((k ≡ 7) × (legal n ≡ false)) ⊎ ((k ≡ 19) × (legal n ≡ true) × (spared n ≡ true))
+unfolding name_refusal
+name-bad k n p = go (legal n) (spared n) refl refl p
+  where
+    go : (x y : Bool) → legal n ≡ x → spared n ≡ y → (k ≡ cond x (cond y 19 0) 7) × (0 < k)
+        → ((k ≡ 7) × (legal n ≡ false)) ⊎ ((k ≡ 19) × (legal n ≡ true) × (spared n ≡ true))
+    go false y a b q = inl (q.0, a)
+    go true true a b q = inr (q.0, a, b)
+    go true false a b q = absurd (omega (arith, q.0, q.1))
+
+-- a number that is not 0 refuses
 refuses : (k m : ℕ) (d : List ℕ) (next : Unit {0} → Outcome) → (k ≡ m) × (0 < k) → passed m d next ≡ refuse k d
 refuses zero m d next p = absurd (omega (arith, p.1))
 refuses (suc k) m d next p = rw (← p.0)
@@ -67,8 +80,9 @@ module _ (v : ℕ) (d : List ℕ) (h : fault v d ≡ 0) (n : Name) where
   pub delete-bad : (e : Refusal) → (number_of e ≡ name_refusal n) × (0 < number_of e) → delete v d n ≡ refuse (number_of e) d
   delete-bad e p = delete-named ∙ refuses (number_of e) (name_refusal n) d (λ _. deleted d n) p
 
-  pub delete-good : 0 ≡ name_refusal n → delete v d n ≡ deleted d n
-  delete-good e = delete-named ∙ rw (← e)
+  pub delete-good : (legal n ≡ true) × (spared n ≡ false) → delete v d n ≡ deleted d n
+  unfolding delete deleted
+  delete-good p = rw (h, p.0, p.1)
 
   restate-named : (status : ℕ) → restate v d n status ≡ passed (name_refusal n) d λ _. restated d (File n) 13 status
   unfolding restate restated file_of
@@ -78,8 +92,9 @@ module _ (v : ℕ) (d : List ℕ) (h : fault v d ≡ 0) (n : Name) where
       → restate v d n status ≡ refuse (number_of e) d
   restate-bad status e p = restate-named status ∙ refuses (number_of e) (name_refusal n) d (λ _. restated d (File n) 13 status) p
 
-  pub restate-good : (status : ℕ) → 0 ≡ name_refusal n → restate v d n status ≡ restated d (File n) 13 status
-  restate-good status e = restate-named status ∙ rw (← e)
+  pub restate-good : (status : ℕ) → (legal n ≡ true) × (spared n ≡ false) → restate v d n status ≡ restated d (File n) 13 status
+  unfolding restate restated file_of
+  restate-good status p = rw (h, p.0, p.1)
 
   pub rename-old-illegal : (new : Name) → legal n ≡ false → rename v d n new ≡ refuse 7 d
   unfolding rename

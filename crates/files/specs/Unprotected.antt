@@ -1,5 +1,5 @@
 -- What the tests of a name promise, and the routines behind the first tests of delete and rename.
-use Rattle.std.specs.Prelude.{ℕ, ◌<◌, ◌≡◌, cond, not, List, Result, Ok, Err}
+use Rattle.std.specs.Prelude.{ℕ, ◌<◌, ◌≡◌, true, false, cond, not, List, Result, Ok, Err}
 use Rattle.meaning.specs.declared.Name.{Name}
 use Rattle.meaning.specs.declared.Refusal.{Refusal}
 use Rattle.meaning.specs.Told.{number_of}
@@ -14,7 +14,7 @@ name_refusal n = cond (legal n) (cond (spared n) 19 0) 7
 
 -- a name passes its tests, or they give its refusal
 abbrev pub NameTested : Result (Unit {0}) Refusal → Name → Type 0
-NameTested (Ok u) n = 0 ≡ name_refusal n
+NameTested (Ok u) n = (legal n ≡ true) × (spared n ≡ false)
 NameTested (Err e) n = (number_of e ≡ name_refusal n) × (0 < number_of e)
 
 -- delete, once the name is legal and not FILE.BAD
