@@ -21,29 +21,29 @@ const EINVAL: i32 = 22;
 
 const ENAMETOOLONG: i32 = 36;
 
-// One step of `read_full`: how many bytes a read put at the start of buf, 0 where it failed.
-fn read_some<R: Read>(reader: &mut R, buf: &mut [u8]) -> usize
-    ensures in_bounds { result ≤ length buf.new }
-    ensures bytes { Consumes (R.remaining reader.old) (R.remaining reader.new) (take result buf.new) }
-{
-    reader.read(buf).unwrap_or(0)
-}
-
-// Reads until buf is full, the input ends or a read fails, and returns how many bytes it put at the start of buf.
-pub fn read_full<R: Read>(reader: &mut R, buf: &mut [u8]) -> usize
-    ensures in_bounds { result ≤ length buf.new }
-    ensures bytes { Consumes (R.remaining reader.old) (R.remaining reader.new) (take result buf.new) }
+// Reads until buf is full, the input ends or a read fails. Returns how many bytes it put at the start of buf, and the error of a read that failed.
+pub fn fill<R: Read>(reader: &mut R, buf: &mut [u8]) -> (usize, io::Result<()>)
+    ensures in_bounds { result.0 ≤ length buf.new }
+    ensures bytes { Consumes (R.remaining reader.old) (R.remaining reader.new) (take result.0 buf.new) }
 {
     // A `while`, as in Rust: `done` goes on by what a read gave, and std's reads to the end need a Vec or lose the count.
     let mut done = 0;
     while done < buf.len() {
-        let n = read_some(reader, &mut buf[done..]);
-        if n == 0 {
-            break;
+        match reader.read(&mut buf[done..]) {
+            Ok(0) => break,
+            Ok(n) => done += n,
+            Err(error) => return (done, Err(error)),
         }
-        done += n;
     }
-    done
+    (done, Ok(()))
+}
+
+// The same, where a read that fails is no more than the input's end.
+pub fn read_full<R: Read>(reader: &mut R, buf: &mut [u8]) -> usize
+    ensures in_bounds { result ≤ length buf.new }
+    ensures bytes { Consumes (R.remaining reader.old) (R.remaining reader.new) (take result buf.new) }
+{
+    fill(reader, buf).0
 }
 
 fn is_missing(rt: &impl Env, i: usize) -> bool {
