@@ -3,13 +3,23 @@
 -- the other, so that together they are one write of both texts. Assumes nothing.
 use Prim.Native.Nat.{ℕ, suc, ◌+◌, ◌≤◌, ◌<◌}
 use mathlib.Core.Path.{◌≡◌, refl, sym, ◌∙◌}
-use mathlib.Core.List.{List, [], ◌∷◌, ◌++◌, append_assoc}
+use mathlib.Core.List.{List, [], ◌∷◌, ◌++◌, append_assoc, append-nil}
 use native.Mathlib.Omega.{arith}
+use native.Mathlib.Nat.{add-zero}
 use native.Mathlib.Numerals.{add-one}
-use lib.ListN.{length, take, drop, set, length-append, length-set}
+use lib.ListN.{length, take, drop, set, length-append, length-set, take-append-drop}
 use lib.Seq.{set_split}
 use Rattle.walks.proofs.Words.{both_put}
 use Rattle.lines.specs.Wrote.{Wrote}
+
+-- nothing is written
+pub none : (b : List ℕ) (p : ℕ) → p ≤ length b → Wrote b p [] b p
+none b p h = record {
+  is = sym (rw (add-zero, append-nil) (take-append-drop p b));
+  ends = omega arith;
+  inside = h;
+  long = refl;
+}
 
 -- one byte
 pub one : (b : List ℕ) (p x : ℕ) → p < length b → Wrote b p (x ∷ []) (set b p x) (p + 1)
