@@ -1,7 +1,7 @@
--- `read_full`: what stands before `done` is what the reader has lost since the beginning, and each turn leaves less room.
+-- `fill`: what stands before `done` is what the reader has lost since the beginning, and each turn leaves less room.
 use Rattle.std.proofs.Common.{length, ◌-◌, ◌≤◌, take}
 use Rattle.std.specs.Io.KnownBytes.{Consumes}
-use Rattle.streams.proofs.read_full.Given as goal
+use Rattle.streams.proofs.fill.Given as goal
 
 abbrev pub invariant-loop-done : goal.invariant-loop-done
 invariant-loop-done g l = record {
