@@ -15,7 +15,7 @@ use Rattle.meaning.specs.Sound.{fault}
 use Rattle.cursor.specs.Cursor.{past, first_slot, rows_at, entry_step, first_step, step_at}
 use Rattle.cursor.specs.declared.Cursor.{Cursor}
 use Rattle.cursor.specs.declared.Seen.{Seen}
-use Rattle.cursor.specs.declared.Step.TheVariants.{Entry, End}
+use Rattle.std.specs.Prelude.{Some, None}
 use Rattle.cursor.proofs.Walking.{On, begins, from_start, step_on, passed}
 use Rattle.reader.specs.Read.{Answers, seen_in, read_at, past_step, skipped, place_after, first_row, row_at}
 use Rattle.reader.specs.declared.Read.{Read}
@@ -23,7 +23,7 @@ use Rattle.reader.specs.declared.Read.TheVariants as read
 use Rattle.reader.specs.declared.Read.TheVariants.{Refused}
 
 -- one step, of n
-pub skip_on : (n : ℕ) (d : List ℕ) (c : Cursor) {s : Seen} {p : Cursor} → 0 < n → step_at d c ≡ Entry s p
+pub skip_on : (n : ℕ) (d : List ℕ) (c : Cursor) {s : Seen} {p : Cursor} → 0 < n → step_at d c ≡ Some (s, p)
     → skipped n d c ≡ skipped (n - 1) d p
 unfolding skipped
 skip_on zero d c h e = absurd (omega arith)
@@ -38,7 +38,7 @@ skip_none zero d c h = refl
 skip_none (suc n) d c h = absurd (omega arith)
 
 -- at the end there is no further
-pub skip_end : (n : ℕ) (d : List ℕ) (c : Cursor) → step_at d c ≡ End → skipped n d c ≡ c
+pub skip_end : (n : ℕ) (d : List ℕ) (c : Cursor) → step_at d c ≡ None → skipped n d c ≡ c
 unfolding skipped
 skip_end zero d c e = refl
 skip_end (suc n) d c e = rw e (skip_end n d c e)
@@ -84,7 +84,7 @@ module _ {v : ℕ} {d : List ℕ} where
     where
       go : (rs : List Row) → rows_at d c ≡ rs → reads (suc n) d c ≡ first_row (drop (suc n) rs)
       go [] e =
-          let f : step_at d c ≡ End = step_on o ∙ ap first_step e in
+          let f : step_at d c ≡ None = step_on o ∙ ap first_step e in
           rw (f, skip_end n d c f, f)
       go (r ∷ rs) e =
           let f : step_at d c ≡ entry_step r = step_on o ∙ ap first_step e in
@@ -119,13 +119,13 @@ module _ (d : List ℕ) (c : Cursor) (k : ℕ) where
       let e = ne_eqb k 0 h in
       record { number_is = refl; values_are = rw e; refused = rw e }
 
-  pub entry_at : {s : Seen} {p : Cursor} → k ≡ 0 → step_at d c ≡ Entry s p → Answers (read.Entry s) k (read_at d c k)
+  pub entry_at : {s : Seen} {p : Cursor} → k ≡ 0 → step_at d c ≡ Some (s, p) → Answers (read.Entry s) k (read_at d c k)
   unfolding read_at
   entry_at h e =
       let z = eq-eqb k 0 h in
       record { number_is = sym h; values_are = rw (z, e); refused = rw z }
 
-  pub end_at : k ≡ 0 → step_at d c ≡ End → Answers read.End k (read_at d c k)
+  pub end_at : k ≡ 0 → step_at d c ≡ None → Answers read.End k (read_at d c k)
   unfolding read_at
   end_at h e =
       let z = eq-eqb k 0 h in

@@ -1,5 +1,6 @@
 -- What the reader promises (document 01, "Requests", its last sentence).
-use Rattle.std.specs.Prelude.{ℕ, zero, suc, ◌≡◌, Bool, true, false, cond, not, List, [], ◌∷◌, drop, eqb}
+use Rattle.std.specs.Prelude.{ℕ, zero, suc, ◌≡◌, Bool, true, false, cond, not, List, [], ◌∷◌, drop, eqb, Some, None}
+use Rattle.std.specs.Prelude as std
 use Rattle.std.proofs.Math.Option.{Option, none, some}
 use Rattle.std.specs.Borrow.{Bor}
 use Rattle.meaning.specs.Words.{Row, rows}
@@ -7,8 +8,6 @@ use Rattle.meaning.specs.Sound.{fault}
 use Rattle.cursor.specs.Cursor.{seen_of, first_slot, step_at}
 use Rattle.cursor.specs.declared.Cursor.{Cursor}
 use Rattle.cursor.specs.declared.Seen.{Seen}
-use Rattle.cursor.specs.declared.Step.{Step}
-use Rattle.cursor.specs.declared.Step.TheVariants as step
 use Rattle.reader.specs.declared.Reader.{Reader}
 use Rattle.reader.specs.declared.Read.{Read}
 use Rattle.reader.specs.declared.Read.TheVariants.{Entry, End, Refused}
@@ -38,18 +37,18 @@ pub record Answers (r : Read) (number : ℕ) (values : Option Seen) : Type 0 whe
   pub refused : is_refused r ≡ not (eqb number 0)
 
 -- the entry that a step gives
-abbrev pub seen_in : Step → Option Seen
-seen_in (step.Entry seen past) = some seen
-seen_in step.End = none
+abbrev pub seen_in : std.Option (Seen × Cursor) → Option Seen
+seen_in (Some (seen, past)) = some seen
+seen_in None = none
 
 -- what stands at a place, for a reader whose number is k: a refused one has nothing to read
 unfoldable pub read_at : List ℕ → Cursor → ℕ → Option Seen
 read_at d c k = cond (eqb k 0) (seen_in (step_at d c)) none
 
 -- a place after a step, or where it was at the end
-abbrev pub past_step : Step → Cursor → Cursor
-past_step (step.Entry seen past) c = past
-past_step step.End c = c
+abbrev pub past_step : std.Option (Seen × Cursor) → Cursor → Cursor
+past_step (Some (seen, past)) c = past
+past_step None c = c
 
 -- the place n entries further on
 unfoldable pub skipped : ℕ → List ℕ → Cursor → Cursor

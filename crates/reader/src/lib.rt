@@ -6,7 +6,7 @@ ghost use Rattle.std.specs.Prelude.{◌≡◌};
 ghost use Rattle.meaning.specs.Sound.{fault};
 ghost use Rattle.reader.specs.Read.{Answers, read_at, place_after, opened, moved_by, row_at};
 
-use cursor::{Cursor, Seen, Step};
+use cursor::{Cursor, Seen};
 use directory::sound;
 
 // The directory, a place in it (a segment and a slot), and the number of the directory's fault, 0 for none.
@@ -17,7 +17,8 @@ pub struct Reader<'a> {
     pub number: u16,
 }
 
-// What is read: an entry, that there is no more, or the number of the directory's fault.
+// What is read: an entry, that there is no more, or the number of the directory's fault. A type of its own, since the manual names its three
+// cases (docs/MANUAL.md, "The reader").
 #[derive(Clone, Copy)]
 pub enum Read {
     Entry(Seen),
@@ -32,10 +33,9 @@ fn read_at(words: &[u16], place: Cursor, number: u16) -> Read
     if number != 0 {
         return Read::Refused(number);
     }
-    let step = cursor::step_from(words, place);
-    match step {
-        Step::Entry(seen, _) => Read::Entry(seen),
-        Step::End => Read::End,
+    match cursor::step_from(words, place) {
+        Some((seen, _)) => Read::Entry(seen),
+        None => Read::End,
     }
 }
 
@@ -48,16 +48,11 @@ fn skip(words: &[u16], place: Cursor, number: u16, count: usize) -> Cursor
         return place;
     }
     let mut here = place;
-    let mut left: usize = count;
-    while 0 < left {
-        let step = cursor::step_from(words, here);
-        match step {
-            Step::Entry(_, past) => {
-                here = past;
-            }
-            Step::End => return here,
-        }
-        left -= 1;
+    for _ in 0..count {
+        let Some((_, past)) = cursor::step_from(words, here) else {
+            return here;
+        };
+        here = past;
     }
     here
 }

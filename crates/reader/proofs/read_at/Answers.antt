@@ -8,14 +8,14 @@ returns-then-number-ne0 c =
     let a = c.args in
     refused-at a.words.now a.place a.number c.if-number-ne0.true
 
-pub returns-in-Entry : goal.returns-in-Entry
-returns-in-Entry c =
+pub returns-in-Some : goal.returns-in-Some
+returns-in-Some c =
     let a = c.args in
     entry_at a.words.now a.place a.number c.if-number-ne0.false
-    (sym c.step_from-step.ensures ∙ c.in-Entry.is)
+    (sym c.step_from.ensures ∙ c.in-Some.is)
 
-pub returns-in-End : goal.returns-in-End
-returns-in-End c =
+pub returns-in-None : goal.returns-in-None
+returns-in-None c =
     let a = c.args in
     end_at a.words.now a.place a.number c.if-number-ne0.false
-    (sym c.step_from-step.ensures ∙ c.in-End.is)
+    (sym c.step_from.ensures ∙ c.in-None.is)
