@@ -1,6 +1,5 @@
 -- The numbers of the faults of a block.
-use Rattle.std.specs.Prelude.{ℕ, Result, Ok, Err}
-use Rattle.std.specs.Prelude.{⊤}
+use Rattle.std.specs.Prelude.{ℕ, ⊤, Result, Ok, Err}
 use Rattle.loads.specs.declared.Fault.{Fault}
 use Rattle.loads.specs.declared.Fault.TheVariants.{Start, Count, Outside, Short, Checksum}
 
