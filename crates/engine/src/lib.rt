@@ -10,7 +10,7 @@ ghost use Rattle.meaning.specs.Enter.{enter};
 ghost use Rattle.meaning.specs.Batch.{serve};
 
 use channels::{abandon_sound, channel_word, close_sound, find_old};
-use choice::size::{is_good_size, size_of};
+use choice::size::size_of;
 use dates::is_good_date;
 use enter::enter_file;
 use files::{check_name, delete_sound, lookup_sound, rename_sound, restate_sound};
@@ -33,8 +33,8 @@ pub fn enter_sound(
 {
     check_name(name)?;
     let word = channel_word(job, channel)?;
-    let asked = size_of(size);
-    if !is_good_size(asked) || !is_good_date(date) {
+    let asked = size_of(size).ok_or(Refusal::WrongSizeOrDate)?;
+    if !is_good_date(date) {
         return Err(Refusal::WrongSizeOrDate);
     }
     if find_entry(d, Key::Open(word)).is_some() {
