@@ -1,10 +1,10 @@
 -- The rows of a sound directory, as the listing shows them. A segment that rule 4 lets stand has fewer entries than slots, and a name
 -- that spells in each entry that is not empty; so there are at most 2,201 rows, and each can be shown. A walk with the cursor keeps
 -- that the text written, and that of the rows ahead, are together the text of all rows. Assumes nothing.
-use Prim.Native.Nat.{ℕ, ◌+◌, ◌*◌, ◌-◌, ◌≤◌, ◌<◌}
+use Prim.Native.Nat.{ℕ, ◌+◌, ◌*◌, ◌-◌, ◌≤◌}
 use mathlib.Core.Path.{◌≡◌, refl, sym, ap, ◌∙◌}
 use mathlib.Core.Bool.{Bool, false, ◌||◌, true≢false}
-use mathlib.Core.List.{List, [], ◌∷◌, ◌++◌, append_assoc, append-nil}
+use mathlib.Core.List.{List, [], ◌∷◌, ◌++◌, append_assoc, append-nil, map}
 use native.Mathlib.Omega.{arith}
 use lib.ListN.{length, get_or, length-append}
 use lib.Dec.{ltb}
@@ -22,12 +22,11 @@ use Rattle.walks.proofs.Alls.{all_append}
 use Rattle.walks.proofs.Slots.{length-slots, most-slots, slots_of}
 use Rattle.rules.proofs.Soundness.{Readable, sound}
 use Rattle.rules.proofs.Fine.{Okay, free, used, Fine, slots-fine}
-use Rattle.cursor.specs.Cursor.{first_slot, rows_at, step_at}
-use Rattle.cursor.specs.declared.Cursor.{Cursor}
+use Rattle.cursor.specs.Cursor.{seen_of}
 use Rattle.cursor.specs.declared.Seen.{Seen}
-use Rattle.std.specs.Prelude.{Some, None}
 use Rattle.chain.proofs.Chains.{fault-chained}
-use Rattle.cursor.proofs.Walking.{On, on_stands, begins, from_start, passed, went, ended}
+use Rattle.cursor.proofs.Walking.{begins, from_start}
+use Rattle.rows.proofs.Ahead.{Small, small-rows, no_rows, headed}
 use Rattle.lines.specs.Wrote.{Wrote, WroteAtMost}
 use Rattle.lines.specs.Bounds.{Spelled}
 use Rattle.rows.specs.Rows.{IsSound, Shown, seen_text}
@@ -104,66 +103,63 @@ module _ (d : List ℕ) where
   unfolding rows
   named-rows v h = named_of (chain d) (sound v d h).readable
 
--- the walk: a text has been written into b from the place p on, which made it m, and the rows from the cursor on are ahead
-pub record Showing (d b : List ℕ) (p : ℕ) (m : List ℕ) (c : Cursor) (next : ℕ) : Type 0 where
-  pub v : ℕ
-  pub on : On v d c
+-- the walk: a text has been written into b from the place p on, which made it m, and the entries ss are ahead, which are those of the rows rs
+pub record Showing (d b : List ℕ) (p : ℕ) (m : List ℕ) (ss : List Seen) (next : ℕ) : Type 0 where
+  pub rs : List Row
+  pub are : ss ≡ map seen_of rs
   pub text : List ℕ
   pub wrote : Wrote b p text m next
-  pub same : text ++ rows_text (rows_at d c) ≡ rows_text (rows d)
-  pub room : next + 36 * length (rows_at d c) ≤ p + 79236
-  pub ahead : All RowNamed (rows_at d c)
+  pub same : text ++ rows_text rs ≡ rows_text (rows d)
+  pub room : next + 36 * length rs ≤ p + 79236
+  pub named : All RowNamed rs
+  pub small : All Small rs
 
-pub show_none : (d b : List ℕ) (p : ℕ) → IsSound d → p + 79236 ≤ length b → {c : Cursor} → c ≡ first_slot d 1
-    → Showing d b p b c p
-show_none d b p s h {c} e =
-    let f = from_start s.v d s.sound in
-    rw e (record {
-      v = s.v;
-      on = begins s.v d s.sound;
-      text = [];
-      wrote = none b p (omega arith);
-      same = ap rows_text f;
-      room = rw f (omega (arith, few-rows d s.v s.sound));
-      ahead = rw f (named-rows d s.v s.sound);
-    })
+pub show_none : (d b : List ℕ) (p : ℕ) → IsSound d → p + 79236 ≤ length b → {ss : List Seen} → ss ≡ map seen_of (rows d)
+    → Showing d b p b ss p
+show_none d b p s h e = record {
+  rs = rows d;
+  are = e;
+  text = [];
+  wrote = none b p (omega arith);
+  same = refl;
+  room = omega (arith, few-rows d s.v s.sound);
+  named = named-rows d s.v s.sound;
+  small = small-rows (rows d) (begins s.v d s.sound) (from_start s.v d s.sound);
+}
 
--- a step gives no more, or the next entry, whose row can be shown and is
-module _ {d b : List ℕ} {p : ℕ} {m : List ℕ} {c : Cursor} {next : ℕ} (g : Showing d b p m c next) where
-  pub show_all : step_at d c ≡ None → WroteAtMost 79236 b p (rows_text (rows d)) m next
+-- no more entries are ahead, or the next, whose row can be shown and is
+module _ {d b : List ℕ} {p : ℕ} {m : List ℕ} {ss : List Seen} {next : ℕ} (g : Showing d b p m ss next) where
+  pub show_all : ss ≡ [] → WroteAtMost 79236 b p (rows_text (rows d)) m next
   unfolding rows_text
   show_all e =
-      let z = rw (ended g.on e, append-nil g.text) at g.same in
+      let z = rw (no_rows g.rs (sym g.are ∙ e), append-nil g.text) at g.same in
       record { wrote = rw (← z) g.wrote; short = omega (arith, g.room) }
 
-  module _ (seen : Seen) (to : Cursor) (e : step_at d c ≡ Some (seen, to)) where
-    pub show_less : length (rows_at d to) < length (rows_at d c)
-    show_less = let w = went g.on seen to e in rw (w.is, w.ahead) (omega arith)
-
+  module _ {seen : Seen} {others : List Seen} (e : ss ≡ seen ∷ others) where
     pub shown : p + 79236 ≤ length b → Shown seen × (next + 36 ≤ length m)
     shown h =
-        let w = went g.on seen to e in
-        let o = on_stands (passed g.on w.row w.rest w.is).on in
-        let a = rw w.is at g.ahead in
-        let r = rw w.is at g.room in (
-          rw w.seen_is (record { spelled = a.0; small = omega (arith, o.small) }),
-          omega (arith, g.wrote.long),
-        )
+        let w = headed g.rs (sym g.are ∙ e) in
+        let a = rw w.is at g.named in
+        let o = rw w.is at g.small in
+        let r = rw w.is at g.room in
+        (rw w.seen_is (record { spelled = a.0; small = o.0 }), omega (arith, g.wrote.long))
 
-    pub show_more : {k : List ℕ} {y : ℕ} → WroteAtMost 36 m next (seen_text seen) k y → Showing d b p k to y
+    pub show_more : {k : List ℕ} {y : ℕ} → WroteAtMost 36 m next (seen_text seen) k y → Showing d b p k others y
     unfolding rows_text
-    show_more {k} {y} u =
-        let w = went g.on seen to e in
-        let a = rw w.is at g.ahead in
+    show_more u =
+        let w = headed g.rs (sym g.are ∙ e) in
+        let a = rw w.is at g.named in
+        let o = rw w.is at g.small in
         let r = rw w.is at g.room in
         let t : seen_text seen ≡ row_text w.row = ap seen_text w.seen_is ∙ sym (row_by_lem w.row) in
         let s = rw w.is at g.same in
         record {
-          v = g.v;
-          on = w.on;
+          rs = w.rest;
+          are = w.others_are;
           text = g.text ++ seen_text seen;
           wrote = both g.wrote u.wrote;
-          same = rw (w.ahead, t, append_assoc) s;
-          room = rw w.ahead (omega (arith, u.short));
-          ahead = rw w.ahead a.1;
+          same = rw (t, append_assoc) s;
+          room = omega (arith, u.short);
+          named = a.1;
+          small = o.1;
         }

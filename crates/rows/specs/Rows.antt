@@ -1,11 +1,14 @@
 -- What the walks over the entries ask and promise.
-use Rattle.std.specs.Prelude.{ℕ, ◌+◌, ◌≤◌, ◌≡◌, cond, List}
+use Rattle.std.specs.Prelude.{ℕ, ◌+◌, ◌≤◌, ◌≡◌, cond, List, map}
 use Rattle.meaning.specs.declared.Kind.{Kind}
 use Rattle.meaning.specs.Kinds.{is_tentative, is_empty, is_permanent}
 use Rattle.meaning.specs.Words.{Entry}
 use Rattle.meaning.specs.Sound.{fault}
 use Rattle.meaning.specs.Listing.{blocks_of}
+use Rattle.cursor.specs.Cursor.{rows_at, seen_of}
+use Rattle.cursor.specs.declared.Cursor.{Cursor}
 use Rattle.cursor.specs.declared.Seen.{Seen}
+use Rattle.cursor.proofs.Walking.{On}
 use Rattle.lines.specs.Bounds.{Spelled}
 use Rattle.lines.specs.Pieces.{row_by}
 use Rattle.rows.specs.declared.Totals.{Totals}
@@ -39,3 +42,12 @@ pub record TotalsOf (es : List Entry) (r : Totals) : Type 0 where
   pub few_files : r.files ≤ 65535
   pub few_opened : r.opened ≤ 65535
   pub few_free : r.free ≤ 65535
+
+-- a cursor on the way through a directory that is sound for some V
+pub record Underway (d : List ℕ) (c : Cursor) : Type 0 where
+  pub v : ℕ
+  pub on : On v d c
+
+-- the entries ahead of a cursor, as code hands them over
+abbrev pub ahead : List ℕ → Cursor → List Seen
+ahead d c = map seen_of (rows_at d c)

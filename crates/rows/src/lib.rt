@@ -1,14 +1,15 @@
-// What the listing shows of the entries: a row for each, and the totals in blocks. Each is one walk with the cursor, which needs no
-// word tested again: the directory is sound by then.
+// What the listing shows of the entries: a row for each, and the totals in blocks. Each is one walk over the entries.
 #![tactic(auto)]
 
-ghost use Rattle.std.specs.Prelude.{◌+◌, ◌≤◌, length};
+ghost use Rattle.std.specs.Prelude.{◌≡◌, ◌+◌, ◌≤◌, length, map};
+ghost use Rattle.std.specs.Iterator.{YieldsFirst, item_count};
 ghost use Rattle.meaning.specs.Words.{rows, all_entries};
 ghost use Rattle.meaning.specs.Listing.{rows_text};
 ghost use Rattle.lines.specs.Wrote.{WroteAtMost};
-ghost use Rattle.rows.specs.Rows.{IsSound, Shown, seen_text, TotalsAfter, TotalsOf};
+ghost use Rattle.cursor.specs.Cursor.{seen_of};
+ghost use Rattle.rows.specs.Rows.{IsSound, Shown, seen_text, TotalsAfter, TotalsOf, Underway, ahead};
 
-use cursor::Seen;
+use cursor::{Cursor, Seen};
 use meaning::Kind;
 
 // The blocks of permanent, of tentative and of empty entries.
@@ -19,7 +20,39 @@ pub struct Totals {
     pub free: usize,
 }
 
-// The row of an entry that the cursor gave.
+// The entries of a sound directory, one by one, in chain order: `here` is the place of the next.
+#[derive(Clone, Copy)]
+struct Entries<'a> {
+    d: &'a [u16],
+    here: Cursor,
+    ghost underway: { ∥ Underway d.now here ∥₁ },
+}
+
+fn entries_of(d: &[u16]) -> Entries<'_>
+    requires { IsSound d.now }
+    ensures { ahead result.d.now result.here ≡ map seen_of (rows d.now) }
+{
+    Entries {
+        d,
+        here: cursor::start(d),
+    }
+}
+
+impl<'a> Iterator for Entries<'a> {
+    type Item = Seen;
+
+    ghost next_gives = { YieldsFirst (λ s. ahead s.d.now s.here) };
+
+    ghost remaining = { item_count (λ s. ahead s.d.now s.here) };
+
+    fn next(&mut self) -> Option<Seen> {
+        let (seen, past) = cursor::step_from(self.d, self.here)?;
+        self.here = past;
+        Some(seen)
+    }
+}
+
+// The row of an entry.
 fn put_row(out: &mut [u8], at: usize, seen: Seen) -> usize
     requires { Shown seen × (at + 36 ≤ length out.old) }
     ensures { WroteAtMost 36 out.old at (seen_text seen) out.new result }
@@ -42,11 +75,9 @@ pub fn put_rows(out: &mut [u8], at: usize, d: &[u16]) -> usize
     requires { IsSound d.now × (at + 79236 ≤ length out.old) }
     ensures { WroteAtMost 79236 out.old at (rows_text (rows d.now)) out.new result }
 {
-    let mut here = cursor::start(d);
     let mut next = at;
-    while let Some((seen, past)) = cursor::step_from(d, here) {
+    for seen in entries_of(d) {
         next = put_row(out, next, seen);
-        here = past;
     }
     next
 }
@@ -79,15 +110,13 @@ pub fn total_blocks(d: &[u16]) -> Totals
     requires { IsSound d.now }
     ensures { TotalsOf (all_entries d.now) result }
 {
-    let mut here = cursor::start(d);
     let mut sums = Totals {
         files: 0,
         opened: 0,
         free: 0,
     };
-    while let Some((seen, past)) = cursor::step_from(d, here) {
+    for seen in entries_of(d) {
         sums = count_entry(sums, seen);
-        here = past;
     }
     sums
 }
