@@ -64,6 +64,7 @@ fn judge(d: &[u16], v: usize, room: usize) -> Result<usize, Refusal>
 pub fn squeeze(d: &mut [u16], v: usize, list: &mut [u16]) -> Report
     ensures { Reports result d.new list.new (squeeze v d.old list.old) }
 {
+    // The fault comes by its number, the one form in which `directory` hands it out.
     let number = fault_of(d, v);
     if number != 0 {
         return Report { number, count: 0 };

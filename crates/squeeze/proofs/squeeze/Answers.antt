@@ -8,9 +8,6 @@ pub returns-then-number-ne0 : goal.returns-then-number-ne0
 returns-then-number-ne0 c =
     faulty c.args.v _ c.args.d.now c.args.list.now c.fault_of-number.ensures c.if-number-ne0.true
 
-pub judge-requires : goal.judge-requires
-judge-requires c = sym c.fault_of-number.ensures ∙ c.if-number-ne0.false
-
 pub returns-in-Err : goal.returns-in-Err
 returns-in-Err c =
     let known = sym c.fault_of-number.ensures ∙ c.if-number-ne0.false in
