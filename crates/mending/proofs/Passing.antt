@@ -2,7 +2,7 @@
 -- so are the block after the entries and the first blocks dealt out. What is ahead is as it was, so slots are read there.
 use Prim.Native.Nat.{ℕ, zero, suc, ◌+◌, ◌*◌, ◌-◌, ◌≤◌, ◌<◌}
 use mathlib.Core.Path.{◌≡◌, refl, sym, ap, ◌∙◌}
-use mathlib.Core.Bool.{true, false, ◌||◌}
+use mathlib.Core.Bool.{Bool, true, false, ◌||◌}
 use mathlib.Core.List.{List, [], ◌∷◌, ◌++◌, append_assoc}
 use native.Mathlib.Nat.{zero-mul, add-zero}
 use native.Mathlib.Omega.{arith}
@@ -168,10 +168,12 @@ module _ (v w : ℕ) (x₀ : LaidTo) (g₀ : List ℕ) (wide : 7 ≤ w) (whole :
           } in
           rw add-zero at (set-written g e g p (p + w) 0 n (omega (arith, pass_long, pass_room h)) (omega (arith, entry_long)) stands)
 
-      pub pass_stop : is_end (kind_of (get_or g p 0)) || (is_unknown (kind_of (get_or g p 0)) || eqb left 1) ≡ true
+      pub pass_stop : (last : Bool) → last ≡ eqb left 1
+          → is_end (kind_of (get_or g p 0)) || (is_unknown (kind_of (get_or g p 0)) || last) ≡ true
           → MendedSegment v w x₀ g₀ (set g p end_status) x
       unfolding upto flat
-      pass_stop t =
+      pass_stop last l t' =
+          let t = rw l at t' in
           let u = next-written (set g p end_status) (marked e)
           (status_written end_status) in
           let z : drop ((left - 1) * w) (drop (p + w) g₁) ≡ rest =
@@ -183,10 +185,12 @@ module _ (v w : ℕ) (x₀ : LaidTo) (g₀ : List ℕ) (wide : 7 ≤ w) (whole :
           (u.words ∙ rw (f, ← u.next, ← append_assoc i.done (marked e) (drop (p + w) g₁))
           (append_assoc (take 5 g₁) (i.done ++ marked e) (drop (p + w) g₁)))
 
-      pub pass_on : is_end (kind_of (get_or g p 0)) || (is_unknown (kind_of (get_or g p 0)) || eqb left 1) ≡ false
+      pub pass_on : (last : Bool) → last ≡ eqb left 1
+          → is_end (kind_of (get_or g p 0)) || (is_unknown (kind_of (get_or g p 0)) || last) ≡ false
           → (n : ℕ) → n ≡ w → (after : List ℕ) (r : LaidTo) → SlotLaid v x (take n (drop p g)) after r → length after ≡ length (take n (drop p g))
           → Passing v w x₀ g₁ (left - 1) (p + w) r (put_mid p n g after)
-      pass_on t n k after r u' long' =
+      pass_on last lst t' n k after r u' long' =
+          let t = rw lst at t' in
           let st : stops e es ≡ false = sym stops_is ∙ t in
           let z = neither (is_end (kind e)) (is_unknown (kind e) || no_more es) st in
           let fs : List ℕ = x.firsts.now in

@@ -47,7 +47,7 @@ returns-then-marks_here c =
     let a = c.args in
     let i = (goal.at.returns-then-marks_here c).In-loop-i in
     pass_stop a.v a.width a.start a.segment.now c.requires.1 c.requires.0 c.loop-i.invariant (left i)
-    (rw (last-is c.loop-i.i (slot_count a.width) c.loop-i-test.true) at (sym c.marks_here.ensures ∙ c.if-marks_here.true))
+    _ (last-is c.loop-i.i (slot_count a.width) c.loop-i-test.true) (sym c.marks_here.ensures ∙ c.if-marks_here.true)
 
 pub overflow_add-word : goal.overflow_add-word
 overflow_add-word c = omega (arith, at_slot (goal.at.overflow_add-word c).In-loop-i)
@@ -73,7 +73,7 @@ loop-i-preserved c =
     let less : slot_count a.width - (c.loop-i.i + 1) ≡ slot_count a.width - c.loop-i.i - 1 = omega arith in
     rw less
     (pass_on a.v a.width a.start a.segment.now c.requires.1 c.requires.0 c.loop-i.invariant (left i)
-    (rw (last-is c.loop-i.i (slot_count a.width) c.loop-i-test.true) at (sym c.marks_here.ensures ∙ c.if-marks_here.false))
+    _ (last-is c.loop-i.i (slot_count a.width) c.loop-i-test.true) (sym c.marks_here.ensures ∙ c.if-marks_here.false)
     _ (omega arith) _ _ c.lay_slot-so_far.ensures c.lay_slot-so_far.auto.slot)
 
 pub returns : goal.returns
