@@ -1,7 +1,7 @@
 // Types 5 and 6 of a case file (docs/CASES.md): a proposal put to the test, and the tool on the present directory.
 #![tactic(auto)]
 
-ghost use Rattle.std.specs.Prelude.{◌≤◌, length, OnOk};
+ghost use Rattle.std.specs.Prelude.{◌≡◌, ◌≤◌, length, OnOk};
 ghost use Rattle.cases.specs.Runs.{Further};
 
 use cases::input::{CaseFile, Head, word_at};
@@ -34,6 +34,7 @@ pub fn take_proposal<R: Read>(
 // Type 6: the tool on a copy of the words at hand, and the test and the fault of what it gave.
 pub fn repair_words(rt: &impl Print, d: &mut [u16], blocks: usize) -> Result<(), Stop>
     requires { length d.old ≤ 15872 }
+    ensures { length d.new ≡ length d.old }
 {
     let mut room = [0u16; WORDS];
     let old = &mut room[..d.len()];
