@@ -124,8 +124,3 @@ pub closed_on_lem : (d : List ℕ) (x n : ℕ) (p : Place) (o : Opened d x p) �
     → closed_on d x n ≡ record { answer = answer_with p n; words = write d (closing d o.row n) }
 unfolding closed_on closed_at success
 closed_on_lem d x n p o q u = rw (o.is, u, q.first, q.date, q.seg, q.slot)
-
--- a slot inside the directory leaves room for an entry's seven words
-pub inside_less : (f : Found) (w n m : ℕ) → 7 ≤ w → n ≡ m → Inside f w n → Inside f 7 m
-inside_less (Some p) w n m l e h = omega arith
-inside_less None w n m l e h = tt

@@ -73,9 +73,6 @@ pub file-found : (d : List ℕ) (n : Name) (p : Place) → found_of (find (holds
 unfolding file_of
 file-found d n p e = found_some (find (holds (File n)) (rows d)) p e
 
-pub file-some : (d : List ℕ) (n : Name) (p : Place) → found_of (find (holds (File n)) (rows d)) ≡ Some p → is_none (file_of d n) ≡ false
-file-some d n p e = rw (file-found d n p e).is
-
 pub file-none : (d : List ℕ) (n : Name) → found_of (find (holds (File n)) (rows d)) ≡ None → file_of d n ≡ none
 unfolding file_of
 file-none d n e = found_none (find (holds (File n)) (rows d)) e

@@ -156,9 +156,6 @@ pub record Filling (a : ℕ) (ds m₀ m : List ℕ) (i : ℕ) : Type 0 where
   pub long : length m ≡ length m₀
   pub left : puts (a + 2 * i) (drop (2 * i) ds) m ≡ puts a ds m₀
 
-pub fill_begins : (a : ℕ) (ds m : List ℕ) → Filling a ds m m 0
-fill_begins a ds m = record { long = refl; left = rw (add-zero a) }
-
 fill_pair : {a i : ℕ} {ds m₀ m : List ℕ} (m' : List ℕ) → Filling a ds m₀ m i → 2 * i + 1 < length ds
     → m' ≡ put_byte (a + 2 * i + 1) (get_or ds (2 * i + 1) 0) (put_byte (a + 2 * i) (get_or ds (2 * i) 0) m) → Filling a ds m₀ m' (i + 1)
 fill_pair {a} {i} {ds} {m₀} {m} m' c h e =

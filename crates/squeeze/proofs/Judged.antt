@@ -119,8 +119,3 @@ by_count zero v d list =
     let ms = moves d in
     omega (arith, words-length ms, length-append (move_words ms) (drop (3 * length ms) list))
 by_count (suc n) v d list = omega arith
-
-pub count_fits : (v : ℕ) (d list : List ℕ) {r : Report} {words after : List ℕ} → Reports r words after (squeeze v d list)
-    → 3 * r.count ≤ length after
-unfolding squeeze
-count_fits v d list t = rw (t.count, t.listed) (by_count (squeeze_number v d list) v d list)
