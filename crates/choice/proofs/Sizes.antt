@@ -2,7 +2,7 @@
 -- by the two longest of some lengths is the meaning's `wanted`. Assumes nothing.
 use Prim.Native.Nat.{ℕ, zero, suc, ◌<◌}
 use mathlib.Core.Path.{◌≡◌, refl, sym, ap, ◌∙◌}
-use mathlib.Core.Bool.{cond}
+use mathlib.Core.Bool.{true, cond}
 use mathlib.Core.List.{List}
 use native.Mathlib.Omega.{arith}
 use lib.IntN.{ℤ, pos, negsuc, nat_abs}
@@ -12,8 +12,10 @@ use mir.Val.{of_z, to_z, SFits}
 use mir.ValLaws.{to_z-of_z}
 use borrow.Author.Tests.{eq-eqb, ne_eqb, le-leb, lt-leb}
 use Rattle.std.specs.Int.{FitsUnsignedBits}
-use Rattle.meaning.specs.Enter.{Size, longest, default, wrong, exact, size_of, longest_of, second_of, wanted}
-use Rattle.choice.specs.Asks.{wanted_by}
+use Rattle.meaning.specs.Enter.{Size, longest, default, wrong, exact, size_of, good_size, longest_of, second_of, wanted}
+use Rattle.choice.specs.Asks.{size_by, wanted_by}
+use Rattle.choice.specs.declared.size.Asked.{Asked}
+use Rattle.choice.specs.declared.size.Asked.TheVariants.{Longest, Default, Exact}
 
 -- a number as code holds it, read back
 abbrev pub held : ℤ → ℤ
@@ -51,6 +53,12 @@ module _ (z : ℤ) (f : SFits w32 z) where
 
   pub wrong-asked : (of_z w32 z ≡ 4294967295 → ⊥) → (FitsUnsignedBits 16 (held z) → ⊥) → wrong ≡ size_of z
   wrong-asked h g = none-asked z (λ e. h (rw e)) (λ k. g (rw (to_z-of_z w32 z f) k))
+
+-- for callers: what is asked for is a size that can be asked for
+pub good-asked : (asked : Asked) → good_size (size_by asked) ≡ true
+good-asked Longest = refl
+good-asked Default = refl
+good-asked (Exact n) = refl
 
 pub wanted_by_lem : (size : Size) (ns : List ℕ) → wanted_by size (longest_of ns) (second_of ns) ≡ wanted size ns
 unfolding wanted_by wanted
