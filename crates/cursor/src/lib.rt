@@ -131,6 +131,7 @@ pub fn start(d: &[u16]) -> Cursor
 
 // One step: an entry and the cursor past it, or nothing where there is no more. A segment may have no entries, so links are followed until
 // there is one; at most 31 segments are asked, so that a loop in the chain can't hold the step.
+// It is no iterator's `next`: the entries of a looped chain have no end, which an iterator would have to have. `rows` has one, of a sound directory.
 pub fn step_from(d: &[u16], cursor: Cursor) -> Option<(Seen, Cursor)>
     ensures { result ≡ step_at d.now cursor }
 {

@@ -1,8 +1,8 @@
 // Rule 6 in linear time: to compare all pairs of entries would be 2.4 million comparisons on a full volume. So one pass lists the
 // places of the entries that have a key, in chain order, and a second one takes that list from its end and puts each entry into a
 // bucket by its key: entries that clash meet in one bucket. (Only names chosen to share a bucket make it slow.) Throughout, `width`
-// is the words of a slot, and a place that of an entry's first word in the directory. The tables are arrays of the largest size, since the
-// project takes no memory from a heap.
+// is the words of a slot, and a place that of an entry's first word in the directory. The tables are arrays of the largest size, with a
+// count beside them while they fill, since the project takes no memory from a heap.
 ghost use Rattle.std.specs.Prelude.{◌≡◌, ◌&&◌, true, ◌+◌, ◌≤◌, ◌<◌, length};
 ghost use Rattle.std.proofs.Math.Option.{some};
 ghost use Rattle.meaning.specs.Words.{slot_words, slots, upto};
@@ -145,6 +145,7 @@ impl<'a> Listed<'a> {
         ensures { result ≡ once key && any (holds key) (seen self.now.d.now self.now.width self.now.places.now (length self.now.places.now) passed) }
     {
         let mut number: usize = first;
+        // A `while`, since each turn goes where the table leads, and counts nothing.
         while 0 < number {
             if slot_keyed(&self.entry(number), key) {
                 return is_once(key);

@@ -9,7 +9,8 @@ ghost use Rattle.reader.specs.Read.{Answers, read_at, place_after, opened, moved
 use cursor::{Cursor, Seen};
 use directory::sound;
 
-// The directory, a place in it (a segment and a slot), and the number of the directory's fault, 0 for none.
+// The directory, a place in it (a segment and a slot), and the number of the directory's fault, 0 for none. A number, since `opened` in
+// specs/Read.antt says so of a reader before all entries (docs/CONTRACTS.md).
 #[derive(Clone, Copy)]
 pub struct Reader<'a> {
     pub words: &'a [u16],
