@@ -10,6 +10,7 @@ use segment::entries::entries_of;
 use segment::kinds;
 
 // The files of the segment of this number, listed at the front of the table. Blocks are summed in a usize, so that nothing is reduced by 65,536.
+// How many rows are listed is told beside the table, since there is no heap (a rule of the project).
 pub fn list_entries(d: &[u16], width: usize, number: usize, table: &mut [File]) -> usize
     requires { (7 ≤ width) × (1 ≤ number) × (number ≤ 31) × (512 * number ≤ length d.now) × (72 ≤ length table.old) }
     ensures { Listed d.now (kept_in width (segment d.now number)) (length table.old) 72 table.new result }

@@ -18,10 +18,11 @@ use mending::anew::mend_all;
 // The number by which the test, and the tool too, says that a proposal doesn't pass.
 const FAILED: u16 = 22;
 
-// A row of a table that lists no file yet. No directory has more than 31 segments of 72 slots, so 2232 rows are enough.
+// A row of a table that lists no file yet. No directory has more than 31 segments of 72 slots, so 2232 rows are
+// enough; a table with a count beside it, since there is no heap (a rule of the project).
 const NO_FILE: File = File { first: 0, at: 0 };
 
-// Damage 1 to 3 or 6 is answered with its number.
+// Damage 1 to 3 or 6 is answered with its number. It is a number here too, since `accept` and `repair` hand it on as it is (docs/CONTRACTS.md).
 fn is_beyond(number: u16) -> bool
     ensures { result ≡ beyond number }
 {
