@@ -26,7 +26,7 @@ pub fn run(d: &mut [u16], v: usize, requests: &[Request], answers: &mut [Answer]
         return 18;
     }
     let number = fault_of(&*d, v);
-    // An index for the answers, and no zip with `iter_mut`: what a loop over `iter_mut` writes, the invariant can't say.
+    // The answers are written by their index, since the invariant says what stands in them below it.
     for (i, request) in requests.iter().enumerate() {
         answers[i] = serve_known(&mut *d, v, number, *request);
     }

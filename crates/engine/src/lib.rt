@@ -73,7 +73,8 @@ pub fn serve_sound(d: &mut [u16], v: usize, request: Request) -> Result<Granted,
     }
 }
 
-// A request record on a directory whose fault is known: the fault refuses it, or the engine carries it out.
+// A request record on a directory whose fault is known: the fault refuses it, or the engine carries it out. A fault is handed in by its
+// number, as `door::fault` gives it.
 pub fn serve_known(d: &mut [u16], v: usize, number: u16, request: Request) -> Answer
     requires { number ≡ fault v d.old }
     ensures { Meets result d.new (serve v d.old request) }
