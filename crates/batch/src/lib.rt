@@ -10,7 +10,8 @@ use directory::sound::fault_of;
 use engine::serve_known;
 use meaning::{Answer, Request};
 
-// What a batch leaves, by value: its number, and the room for answers.
+// What a batch leaves, by value: its number, and the room for answers. A number and no Result, here and at `run`: docs/MANUAL.md gives it, and
+// the contracts say it by `Ran` and `Left`, which `run_determined` and the laws of demand 3 stand on.
 #[derive(Clone, Copy)]
 pub struct Part {
     pub number: u16,

@@ -27,6 +27,7 @@ pub fn serve(d: &mut [u16], v: usize, request: Request) -> Answer
 pub fn lookup(d: &[u16], v: usize, name: Name) -> Answer
     ensures { result ≡ (lookup v d.now name).answer }
 {
+    // The fault comes by its number, as `fault` gives it to a user.
     let number = fault_of(d, v);
     if number != 0 {
         return refused(number);

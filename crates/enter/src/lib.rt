@@ -19,7 +19,8 @@ use render::Tentative;
 use survey::areas::survey_areas;
 use tidy::tidy::tidy_all;
 
-// The directory tidied. Where no segment is untidy, as most often, nothing is walked for it.
+// The directory tidied. Where no segment is untidy, as most often, nothing is walked for it. A function of its own, so that an `if` whose ways join
+// stands before no other call.
 fn tidy_if(d: &mut [u16], v: usize, untidy: bool)
     requires { (fault v d.old ≡ 0) × (untidy ≡ any_untidy d.old) }
     ensures { d.new ≡ tidied d.old (chain d.old) }

@@ -94,7 +94,9 @@ pub struct Position {
     pub slot: u16,
 }
 
-// The answer to a request: 0 and the entry concerned, where it is after the request, or the number of the refusal and zeros.
+// The answer to a request: 0 and the entry concerned, where it is after the request, or the number of the refusal and zeros. A number beside
+// values and no Result: docs/MANUAL.md answers by these six fields, and the theorems of the crate laws (Refusals, Order, Points) speak of
+// them. Inside the engine it is a Result of `Granted` and `Refusal`.
 #[derive(Clone, Copy, PartialEq, Eq)]
 pub struct Answer {
     pub number: u16,

@@ -46,6 +46,7 @@ pub fn mend_segment<'a>(
     let count = 507 / width;
     let mut word: usize = 5;
     let mut so_far = start;
+    // By place, since each slot is written: behind a walk by `chunks_exact_mut` a proof knows the length of the words and no word.
     for i in 0..count {
         if marks_here(segment[word], i + 1 == count) {
             segment[word] = END;

@@ -30,6 +30,7 @@ pub fn feed(reader: Reader, piece: &[u8], words: &mut [u16]) -> Reader
     let size = size_of(words);
     let mut state = reader;
     let mut rest = piece;
+    // A `while`, since how many bytes a turn takes is known only behind it.
     while !rest.is_empty() && !state.is_decided() {
         let taken = take_some(state, rest, size, words);
         state = taken.reader;
