@@ -37,9 +37,6 @@ no_request = record {
   date = 0;
 }
 
-abbrev pub no_answer : Answer
-no_answer = refusal 0
-
 -- an answer put in its place comes after those before it
 answer-put : (xs : List Answer) (i : ℕ) (x : Answer) (ys : List Answer) → i < length xs
     → take (suc i) (set xs i x) ++ ys ≡ take i xs ++ (x ∷ ys)

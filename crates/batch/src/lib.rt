@@ -2,7 +2,7 @@
 // stands above it for all callers that have their records in arrays.
 #![tactic(auto)]
 
-ghost use Rattle.std.specs.Prelude.{◌≡◌, ◌≤◌, min, take, drop};
+ghost use Rattle.std.specs.Prelude.{◌≡◌, ◌≤◌, take, drop};
 ghost use Rattle.meaning.specs.Batch.{batch};
 ghost use Rattle.batch.specs.Ran.{Ran, Left};
 
@@ -26,10 +26,9 @@ pub fn run(d: &mut [u16], v: usize, requests: &[Request], answers: &mut [Answer]
         return 18;
     }
     let number = fault_of(&*d, v);
-    let mut i: usize = 0;
-    while i < requests.len() {
-        answers[i] = serve_known(&mut *d, v, number, requests[i]);
-        i += 1;
+    // An index for the answers, and no zip with `iter_mut`: what a loop over `iter_mut` writes, the invariant can't say.
+    for (i, request) in requests.iter().enumerate() {
+        answers[i] = serve_known(&mut *d, v, number, *request);
     }
     0
 }
@@ -50,16 +49,6 @@ fn run_part(
     Part { number, answers }
 }
 
-// At most eight.
-fn eight(n: usize) -> usize
-    ensures { result ≡ min n 8 }
-{
-    if n < 8 {
-        return n;
-    }
-    8
-}
-
 // The same for any numbers: of more than eight, all eight are meant.
 pub fn run_some(
     d: &mut [u16],
@@ -71,5 +60,5 @@ pub fn run_some(
 ) -> Part
     ensures { Left result d.new (batch v d.old (take n requests) (take m answers)) (drop m answers) }
 {
-    run_part(d, v, requests, eight(n), answers, eight(m))
+    run_part(d, v, requests, n.min(8), answers, m.min(8))
 }

@@ -1,4 +1,4 @@
 pub mod Checked
-pub mod Follow
+pub mod Reading
 pub mod Turned
 pub mod Fields

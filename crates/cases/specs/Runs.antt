@@ -1,21 +1,24 @@
--- Where a run stands after something was read or written. Which bytes come and go no contract can say; that the present directory is kept
--- until the run ends, these do.
-use Rattle.std.specs.Prelude.{◌≡◌, ℕ, ◌+◌, ◌%◌, ◌^◌, ◌≤◌, Bool, true, false}
-use Rattle.cases.specs.declared.state.State.{State}
+-- How far a case file is read. Which bytes come no contract can say; that none is passed over, and that the offset which a complaint names counts
+-- them, these do, for a reader whose bytes are known.
+use Rattle.std.specs.Prelude.{◌≡◌, ℕ, ◌+◌, ◌-◌, ◌%◌, ◌^◌, List, length, Option}
+use Rattle.std.specs.Io.KnownBytes.{Consumes}
+use Rattle.cases.specs.declared.input.CaseFile.{CaseFile}
+use Rattle.cases.specs.declared.stops.Why.{Why}
+use Rattle.cases.specs.declared.stops.Stop.{Stop}
+use Rattle.cases.specs.declared.stops.Stop.TheVariants as Stops
+use Rattle.cases.specs.declared.stops.Fault.TheVariants as Faults
 
--- the run stands n bytes further, and goes on or not; the offset would begin anew behind 64 bits
-pub record Passed (s : State) (n : ℕ) (goes : Bool) (r : State) : Type 0 where
-  pub going : r.going ≡ goes
-  pub words : r.words ≡ s.words
-  pub blocks : r.blocks ≡ s.blocks
-  pub offset : r.offset ≡ (s.offset + n) % 2 ^ 64
+-- these bytes were read; the offset would begin anew behind 64 bits
+pub record Took {R : Type 0} (remaining : R → Option (List ℕ)) (old new : CaseFile R) (bytes : List ℕ) : Type 0 where
+  pub lost : Consumes (remaining old.reader) (remaining new.reader) bytes
+  pub offset : new.offset ≡ (old.offset + length bytes) % 2 ^ 64
 
--- the run has ended, and there is no directory any more
-pub record Ended (r : State) : Type 0 where
-  pub going : r.going ≡ false
-  pub words : r.words ≡ 0
+-- some bytes were read, or none
+pub record Further {R : Type 0} (remaining : R → Option (List ℕ)) (old new : CaseFile R) : Type 0 where
+  pub bytes : List ℕ
+  pub lost : Consumes (remaining old.reader) (remaining new.reader) bytes
+  pub offset : new.offset % 2 ^ 64 ≡ (old.offset + length bytes) % 2 ^ 64
 
--- the run goes on with the same directory, or has ended
-pub record Follows (s r : State) : Type 0 where
-  pub words : r.words ≤ s.words
-  pub same : r.going ≡ true → (r.words ≡ s.words) × (r.blocks ≡ s.blocks)
+-- the run ends at a number that can't be taken, which begins so many bytes before the next
+abbrev pub RefusesAt : {R : Type 0} → CaseFile R → Why → ℕ → ℕ → Stop → Type 0
+RefusesAt file why number back stop = stop ≡ Stops.Fault (Faults.Refused why number ((file.offset + (2 ^ 64 - back)) % 2 ^ 64))

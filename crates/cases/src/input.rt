@@ -1,111 +1,137 @@
 // What is read: a record's bytes as words, names, numbers and requests, low byte and low word first.
-ghost use Rattle.std.specs.Prelude.{◌≡◌, ◌+◌, ◌≤◌, length, IfOk};
+ghost use Rattle.std.specs.Prelude.{◌≡◌, ◌+◌, ◌≤◌, ◌<◌, length, take, IfOk, OnOk, MatchResult, MatchOption, false, true};
 ghost use Rattle.meaning.specs.Listing.{word_at};
-ghost use Rattle.cases.specs.Runs.{Follows};
+ghost use Rattle.cases.specs.Runs.{Took, Further, RefusesAt};
 ghost use Rattle.cases.specs.Records.{long_at, signed_at, name_at, is_request, op_of, request_at};
 
-use crate::complaints::complain_of_end;
-use crate::state::{State, passed, stopped};
+use crate::stops::{Fault, Stop, Why};
 use meaning::{Name, Op, Request};
-use std::io;
 use std::io::Read;
-use streams::fail;
+use streams::fill;
 
 // The most bytes that a record counts. A program that takes them has room for so many.
 pub const BYTES: usize = 100000;
 
-// Fills the bytes from standard input as far as it goes, and answers how many came, or why a read failed. `streams::read_full` would stop at a
-// failed read as at the input's end, and these are told apart here.
-fn fill(rt: &impl Input, bytes: &mut [u8]) -> io::Result<usize>
-    ensures { IfOk result (λ n. n ≤ length bytes.new) }
-{
-    let mut reader = rt.reader();
-    let mut done = 0;
-    while done < bytes.len() {
-        let n = reader.read(&mut bytes[done..])?;
-        if n == 0 {
-            break;
+// A record's type, and what stands behind it in every record of the type.
+pub type Head = [u8; 30];
+
+// A case file that is read. `offset` counts the bytes read so far; no run gets to where it would begin anew.
+#[derive(Drop)]
+pub struct CaseFile<R> {
+    reader: R,
+    offset: u64,
+}
+
+impl<R: Read> CaseFile<R> {
+    pub fn new(reader: R) -> CaseFile<R>
+        ensures { (result.reader ≡ reader) × (result.offset ≡ 0) }
+    {
+        CaseFile { reader, offset: 0 }
+    }
+
+    // Fills the bytes as far as the file goes, and answers how many came.
+    fn fill(&mut self, bytes: &mut [u8]) -> Result<usize, Stop>
+        ensures in_bounds { IfOk result (λ n. n ≤ length bytes.new) }
+        ensures took { IfOk result (λ n. Took R.remaining self.old self.new (take n bytes.new)) }
+    {
+        let (got, end) = fill(&mut self.reader, bytes);
+        self.offset = self.offset.wrapping_add(got as u64);
+        match end {
+            Ok(()) => Ok(got),
+            Err(error) => Err(Stop::Input(error)),
         }
-        done += n;
     }
-    Ok(done)
-}
 
-// Fills the bytes from standard input, and the run goes on behind them. Where fewer come it ends: in the midst of a record, unless it
-// is a record's first bytes that are asked for and none came.
-pub fn read_bytes(
-    rt: &(impl Input + Eprint + Alloc),
-    bytes: &mut [u8],
-    state: State,
-    is_first: bool,
-) -> State
-    ensures { Follows state result }
-{
-    match fill(rt, bytes) {
-        Ok(got) => {
-            let next = passed(state, got, true);
-            if got == bytes.len() {
-                return next;
-            }
-            complain_of_end(rt, is_first && got == 0, next.offset);
+    // Fills the bytes; where fewer come, the file ends in the midst of a record.
+    pub fn read(&mut self, bytes: &mut [u8]) -> Result<(), Stop>
+        ensures { OnOk result (Took R.remaining self.old self.new bytes.new) }
+    {
+        if self.fill(bytes)? < bytes.len() {
+            return Err(Stop::Fault(Fault::Cut(self.offset)));
         }
-        Err(error) => fail(rt, b"conformance: standard input", error),
+        Ok(())
     }
-    stopped()
+
+    // The same of a record's first bytes; where none comes, the file ends between two records.
+    pub fn read_first(&mut self, bytes: &mut [u8]) -> Result<(), Stop>
+        ensures { OnOk result (Took R.remaining self.old self.new bytes.new) }
+    {
+        let got = self.fill(bytes)?;
+        if got == bytes.len() {
+            return Ok(());
+        }
+        if got == 0 {
+            return Err(Stop::Fault(Fault::NoEnd(self.offset)));
+        }
+        Err(Stop::Fault(Fault::Cut(self.offset)))
+    }
+
+    // Fills the bytes of a record that counts them: an odd last one is followed by one more, so that words follow.
+    pub fn read_counted(&mut self, bytes: &mut [u8]) -> Result<(), Stop>
+        ensures { OnOk result (Further R.remaining self.old self.new) }
+    {
+        self.read(bytes)?;
+        let mut last = [0u8; 1];
+        self.read(&mut last[..bytes.len() % 2])
+    }
+
+    // Fills the words.
+    pub fn read_words(&mut self, words: &mut [u16]) -> Result<(), Stop>
+        requires { length words.old ≤ 15872 }
+        ensures { OnOk result (Further R.remaining self.old self.new) }
+    {
+        let mut room = [0u8; 31744];
+        let bytes = &mut room[..2 * words.len()];
+        self.read(bytes)?;
+        for (i, word) in words.iter_mut().enumerate() {
+            *word = word_at(bytes, 2 * i);
+        }
+        Ok(())
+    }
+
+    // What ends the run at a word or a number that can't be taken, which begins so many bytes before what is read next.
+    pub fn refused(&self, why: Why, number: u32, back: usize) -> Stop
+        ensures { RefusesAt self.now why number back result }
+    {
+        Stop::Fault(Fault::Refused(why, number, self.offset.wrapping_sub(back as u64)))
+    }
+
+    // A number as a count, where it is not above the most that there may be.
+    pub fn at_most(&self, number: u32, most: usize, why: Why, back: usize) -> Result<usize, Stop>
+        ensures { MatchResult result (λ n. (n ≡ number) × (n ≤ most)) (λ _. most < number) }
+    {
+        let n = number as usize;
+        if n > most {
+            return Err(self.refused(why, number, back));
+        }
+        Ok(n)
+    }
 }
 
-// Fills the first bytes, so many, as a record has them that counts its bytes: an odd last one is followed by one more, so that words follow.
-pub fn read_counted(
-    rt: &(impl Input + Eprint + Alloc),
-    bytes: &mut [u8],
-    count: usize,
-    state: State,
-) -> State
-    requires { count ≤ length bytes.old }
-    ensures { Follows state result }
-{
-    let next = read_bytes(rt, &mut bytes[0..count], state, false);
-    if !next.going {
-        return next;
-    }
-    if count % 2 == 0 {
-        return next;
-    }
-    let mut last = [0u8; 1];
-    read_bytes(rt, &mut last, next, false)
-}
-
-pub(crate) fn wide_byte(byte: u8) -> u16
-    ensures { (result ≡ byte) × (result ≤ 255) }
-{
-    byte as u16
-}
-
+// The word whose low byte stands there.
+#[tactic(auto, unfolding(meaning::specs::Listing::word_at))]
 pub fn word_at(bytes: &[u8], at: usize) -> u16
     requires { at + 2 ≤ length bytes.now }
     ensures { result ≡ word_at bytes.now at }
 {
-    wide_byte(bytes[at]) + 256 * wide_byte(bytes[at + 1])
+    u16::from_le_bytes([bytes[at], bytes[at + 1]])
 }
 
 // A number of 32 bits.
+#[tactic(auto, unfolding(crate::specs::Records::long_at, meaning::specs::Listing::word_at))]
 pub fn long_at(bytes: &[u8], at: usize) -> u32
     requires { at + 4 ≤ length bytes.now }
     ensures { result ≡ long_at bytes.now at }
 {
-    word_at(bytes, at) as u32 + 65536 * (word_at(bytes, at + 2) as u32)
+    u32::from_le_bytes([bytes[at], bytes[at + 1], bytes[at + 2], bytes[at + 3]])
 }
 
-// The same in two's complement: with the highest bit set it is as far below -1 as it lacks to all ones, and `!x` is -1 - x.
+// The same in two's complement.
 fn signed_at(bytes: &[u8], at: usize) -> i32
     requires { at + 4 ≤ length bytes.now }
     ensures { result ≡ signed_at bytes.now at }
 {
-    let bits = long_at(bytes, at);
-    if bits < 0x80000000 {
-        return bits as i32;
-    }
-    !((0xffffffff - bits) as i32)
+    long_at(bytes, at).cast_signed()
 }
 
 fn name_at(bytes: &[u8], at: usize) -> Name
@@ -119,40 +145,12 @@ fn name_at(bytes: &[u8], at: usize) -> Name
     }
 }
 
-// The words that the first of the bytes make.
-fn words_of_bytes(bytes: &[u8], words: &mut [u16])
-    requires { (length bytes.now ≡ 31744) × (length words.old ≤ 15872) }
+// The request that a number asks for, if it is that of one.
+#[tactic(auto, unfolding(crate::specs::Records::op_of, crate::specs::Records::is_request))]
+fn op_of(number: u16) -> Option<Op>
+    ensures { MatchOption result (is_request number ≡ false) (λ op. (is_request number ≡ true) × (op ≡ op_of number)) }
 {
-    for i in 0..words.len() {
-        words[i] = word_at(bytes, 2 * i);
-    }
-}
-
-// Fills the words from standard input. Where fewer than all their bytes come the run ends, and what the words are is no matter.
-pub fn read_words(rt: &(impl Input + Eprint + Alloc), words: &mut [u16], state: State) -> State
-    requires { length words.old ≤ 15872 }
-    ensures { Follows state result }
-{
-    let mut room = [0u8; 31744];
-    let n = 2 * words.len();
-    let bytes = &mut room[..];
-    let next = read_bytes(rt, &mut bytes[0..n], state, false);
-    words_of_bytes(bytes, words);
-    next
-}
-
-// Whether a number asks for a request.
-pub fn is_request(number: u16) -> bool
-    ensures { result ≡ is_request number }
-{
-    1 <= number && number <= 8
-}
-
-// Which one.
-fn op_of(number: u16) -> Op
-    ensures { result ≡ op_of number }
-{
-    match number {
+    Some(match number {
         1 => Op::Lookup,
         2 => Op::Enter,
         3 => Op::Close,
@@ -160,17 +158,19 @@ fn op_of(number: u16) -> Op
         5 => Op::Delete,
         6 => Op::Rename,
         7 => Op::Protect,
-        _ => Op::Unprotect,
-    }
+        8 => Op::Unprotect,
+        _ => return None,
+    })
 }
 
-// The request of fourteen words.
-pub fn request_at(bytes: &[u8], at: usize) -> Request
+// The request of fourteen words, if the first asks for one.
+pub fn request_at(bytes: &[u8], at: usize) -> Option<Request>
     requires { at + 28 ≤ length bytes.now }
-    ensures { result ≡ request_at bytes.now at }
+    ensures { MatchOption result (is_request (word_at bytes.now at) ≡ false)
+        (λ r. (is_request (word_at bytes.now at) ≡ true) × (r ≡ request_at bytes.now at)) }
 {
-    Request {
-        op: op_of(word_at(bytes, at)),
+    Some(Request {
+        op: op_of(word_at(bytes, at))?,
         name: name_at(bytes, at + 2),
         new_name: name_at(bytes, at + 8),
         job: word_at(bytes, at + 14),
@@ -178,5 +178,5 @@ pub fn request_at(bytes: &[u8], at: usize) -> Request
         size: signed_at(bytes, at + 18),
         final_length: signed_at(bytes, at + 22),
         date: word_at(bytes, at + 26),
-    }
+    })
 }

@@ -1,16 +1,9 @@
-// What the records of a case file share (docs/CASES.md): bytes taken as words, numbers and requests, where a run stands, and the lines that it
-// writes. What a contract can't say, which bytes come and go, is tried by the program `conformance`.
+// What the records of a case file share (docs/CASES.md): the file with the count of its bytes, those bytes as words, numbers and requests, the
+// lines that a run writes, and what ends it. What a contract can't say, which lines come, is tried by the program `conformance`.
 #![tactic(auto)]
 
-mod complaints;
 pub mod input;
 pub mod output;
-pub mod state;
+mod stops;
 
-pub use complaints::Why;
-
-// What a run asks of the system: standard input, output and error, and memory for the text of a failure. It has no files, so that what a proof
-// trusts of the system stays small.
-pub trait Console: Input + Print + Eprint + Alloc {}
-
-impl Console for HostRuntime {}
+pub use stops::{Fault, Stop, Why};

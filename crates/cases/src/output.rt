@@ -1,98 +1,28 @@
-// What is written: each line is put together in a buffer and goes out by one write.
-ghost use Rattle.std.specs.Prelude.{◌≡◌, ◌<◌, ◌≤◌};
-ghost use Rattle.cases.specs.Runs.{Passed};
+// What is written: lines of a word and numbers, and the check that they have.
+ghost use Rattle.std.specs.Prelude.{◌≡◌, ◌<◌};
 ghost use Rattle.cases.specs.Lines.{numbers_of, Added, check};
 
-use crate::input::wide_byte;
-use crate::state::{State, passed};
-use itoa::Buffer;
 use meaning::Answer;
-use streams::fail;
-
-// A word of six letters, six numbers that are words and three of up to twenty digits, each with a byte before it, have room.
-const ROOM: usize = 128;
+use std::fmt;
 
 // The divisor of the check: the largest prime below 65,536.
 const PRIME: u64 = 65521;
 
-fn least(x: usize, y: usize) -> usize
-    ensures { (result ≤ x) × (result ≤ y) }
-{
-    if x < y { x } else { y }
-}
+// A line of a word and numbers, with a space between them. The word may be empty.
+#[derive(Drop)]
+pub struct Line<'a>(pub &'a str, pub &'a [u64]);
 
-// The bytes at a place in the line, as far as it goes; answers the place behind them.
-fn put(line: &mut [u8; ROOM], at: usize, bytes: &[u8]) -> usize
-    requires { at ≤ 128 }
-    ensures { result ≤ 128 }
-{
-    let n = least(bytes.len(), ROOM - at);
-    for i in 0..n {
-        line[at + i] = bytes[i];
-    }
-    at + n
-}
-
-// A number, and a space before it where it does not begin the line.
-fn put_number(line: &mut [u8; ROOM], at: usize, number: u64) -> usize
-    requires { at ≤ 128 }
-    ensures { result ≤ 128 }
-{
-    let mut buffer = Buffer::new();
-    let digits = buffer.format(number).as_bytes();
-    if at == 0 {
-        return put(line, 0, digits);
-    }
-    let from = put(line, at, b" ");
-    put(line, from, digits)
-}
-
-fn put_numbers(line: &mut [u8; ROOM], start: usize, numbers: &[u64]) -> usize
-    requires { start ≤ 128 }
-    ensures { result ≤ 128 }
-{
-    let mut at = start;
-    for i in 0..numbers.len() {
-        at = put_number(line, at, numbers[i]);
-    }
-    at
-}
-
-// Whether the line got out; where it did not, standard error says why.
-fn write_out(rt: &(impl Print + Eprint + Alloc), line: &[u8; ROOM], end: usize) -> bool
-    requires { end ≤ 128 }
-{
-    let whole = &line[..];
-    match rt.write_all(&whole[0..end]) {
-        Ok(()) => true,
-        Err(error) => {
-            fail(rt, b"conformance: standard output", error);
-            false
+impl fmt::Display for Line<'_> {
+    fn fmt<W: fmt::Write>(&self, f: &mut fmt::Formatter<W>) -> fmt::Result {
+        f.write_str(self.0)?;
+        for (i, number) in self.1.iter().enumerate() {
+            if i > 0 || !self.0.is_empty() {
+                f.write_str(" ")?;
+            }
+            write!(f, "{number}")?;
         }
+        Ok(())
     }
-}
-
-// A line of a word and numbers, with a space between them. The word may be empty. Where the line does not get out the run ends.
-pub fn write_line(
-    rt: &(impl Print + Eprint + Alloc),
-    state: State,
-    word: &[u8],
-    numbers: &[u64],
-) -> State
-    ensures { Passed state 0 result.going result }
-{
-    let mut line = [0u8; ROOM];
-    let at = put(&mut line, 0, word);
-    let at = put_numbers(&mut line, at, numbers);
-    let end = put(&mut line, at, b"\n");
-    passed(state, 0, write_out(rt, &line, end))
-}
-
-// A line of a text alone.
-pub fn write_text(rt: &(impl Print + Eprint + Alloc), state: State, text: &[u8]) -> State
-    ensures { Passed state 0 result.going result }
-{
-    write_line(rt, state, text, &[])
 }
 
 // The numbers of an answer, in the order of its line, and the check behind them.
@@ -134,10 +64,8 @@ pub fn check_of(words: &[u16]) -> u64
     ensures { result ≡ check words.now }
 {
     let mut sums = Sums { a: 1, b: 0 };
-    let mut i = 0;
-    while i < words.len() {
-        sums = added(sums, words[i]);
-        i += 1;
+    for word in words {
+        sums = added(sums, *word);
     }
     sums.b * 65536 + sums.a
 }
@@ -147,10 +75,8 @@ pub fn check_of_bytes(bytes: &[u8]) -> u64
     ensures { result ≡ check bytes.now }
 {
     let mut sums = Sums { a: 1, b: 0 };
-    let mut i = 0;
-    while i < bytes.len() {
-        sums = added(sums, wide_byte(bytes[i]));
-        i += 1;
+    for byte in bytes {
+        sums = added(sums, *byte as u16);
     }
     sums.b * 65536 + sums.a
 }

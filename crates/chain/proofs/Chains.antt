@@ -22,14 +22,6 @@ pub size_is : (v : ℕ) (d : List ℕ) → bad1 v d ≡ size_wrong v (length d)
 unfolding bad1 size_wrong
 size_is v d = refl
 
--- a number is above a bound where it is not at most the bound
-pub above_not : (k n : ℕ) → ltb k n ≡ not (leb n k)
-above_not k n = go (leb n k) refl
-  where
-    go : (t : Bool) → leb n k ≡ t → ltb k n ≡ not t
-    go true e = le-ltb k n (leb-true n k e)
-    go false e = lt-ltb k n (leb-false n k e)
-
 -- for callers that have passed the first three tests
 pub chained : (v : ℕ) (d : List ℕ) → bad1 v d ≡ false → bad2 d ≡ false → bad3 d ≡ false → Chained d
 chained v d h i j =

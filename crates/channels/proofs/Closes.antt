@@ -15,9 +15,8 @@ use Rattle.meaning.specs.Answers.{refuse, success, Write, put, write, open_on}
 use Rattle.meaning.specs.Requests.{emptying, replacing, gives_way, over_protected, closing}
 use Rattle.meaning.specs.declared.Key.TheVariants.{Open}
 use Rattle.segment.specs.declared.finder.Place.{Place}
-use Rattle.segment.specs.declared.finder.Found.{Found}
-use Rattle.segment.specs.declared.finder.Found.TheVariants.{At, Nothing}
-use Rattle.segment.specs.Finder.{found_of, Inside}
+use Rattle.std.proofs.Common.{Some, None}
+use Rattle.segment.specs.Finder.{Found, found_of, Inside}
 use Rattle.walks.proofs.Words.{word}
 use Rattle.rules.proofs.Grown.{closable}
 use Rattle.find.specs.Find.{FitsWords, answer_with}
@@ -67,7 +66,7 @@ ready v d h x p o =
       word = λ k m. ap (λ (z : ℕ). get_or d (z + k) 0) (sym a) ∙ c.word k m;
       room = rw (← a) c.room;
       fits = rw (← a, ← l) c.fits;
-      small = place-small v d h (Open x) p (ap found_of o.is ∙ ap At o.place);
+      small = place-small v d h (Open x) p (ap found_of o.is ∙ ap Some o.place);
     }
 
 -- the name that stands at the place is the entry's
@@ -125,8 +124,3 @@ pub closed_on_lem : (d : List ℕ) (x n : ℕ) (p : Place) (o : Opened d x p) �
     → closed_on d x n ≡ record { answer = answer_with p n; words = write d (closing d o.row n) }
 unfolding closed_on closed_at success
 closed_on_lem d x n p o q u = rw (o.is, u, q.first, q.date, q.seg, q.slot)
-
--- a slot inside the directory leaves room for an entry's seven words
-pub inside_less : (f : Found) (w n m : ℕ) → 7 ≤ w → n ≡ m → Inside f w n → Inside f 7 m
-inside_less (At p) w n m l e h = omega arith
-inside_less Nothing w n m l e h = tt

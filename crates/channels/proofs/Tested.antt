@@ -18,11 +18,10 @@ use Rattle.meaning.specs.Sound.{fault}
 use Rattle.meaning.specs.Answers.{refuse, find, open_on}
 use Rattle.meaning.specs.Requests.{restating, emptying, channel_limit, good_channel, word_of, abandon, close}
 use Rattle.segment.specs.declared.finder.Place.{Place}
-use Rattle.segment.specs.declared.finder.Found.TheVariants.{At, Nothing}
+use Rattle.std.proofs.Common.{Some, None}
 use Rattle.segment.specs.Finder.{found_of}
 use Rattle.find.specs.Find.{restated}
 use Rattle.find.proofs.Behind.{open_found, open_none}
-use Rattle.channels.specs.declared.Final.TheVariants.{Length, Wrong}
 use Rattle.channels.specs.Closing.{final_by, closed_on}
 use Rattle.channels.proofs.Finals.{closed-length, closed_wrong}
 
@@ -52,20 +51,20 @@ module _ (v : ℕ) (d : List ℕ) (h : fault v d ≡ 0) (job channel : ℕ) wher
   unfolding close
   close-bad final g = rw (h, g)
 
-  pub close-none : (final : ℤ) → good_channel job channel ≡ true → found_of (find (holds (Open (word_of job channel))) (rows d)) ≡ Nothing
+  pub close-none : (final : ℤ) → good_channel job channel ≡ true → found_of (find (holds (Open (word_of job channel))) (rows d)) ≡ None
       → close v d job channel final ≡ refuse 15 d
   unfolding close
   close-none final g e = rw (h, g, open_none d (word_of job channel) e)
 
   module _ (final : ℤ) (p : Place) (g : good_channel job channel ≡ true)
-      (e : found_of (find (holds (Open (word_of job channel))) (rows d)) ≡ At p) where
-    pub close_wrong : final_by final p.length ≡ Wrong → close v d job channel final ≡ refuse 16 d
+      (e : found_of (find (holds (Open (word_of job channel))) (rows d)) ≡ Some p) where
+    pub close_wrong : final_by final p.length ≡ None → close v d job channel final ≡ refuse 16 d
     unfolding close
     close_wrong f =
         let b = open_found d (word_of job channel) p e in
         rw (h, g, b.is, closed_wrong d b.row final _ (ap (λ (q : Place). q.length) b.place) f)
 
-    pub close-length : (n : ℕ) → final_by final p.length ≡ Length n
+    pub close-length : (n : ℕ) → final_by final p.length ≡ Some n
         → close v d job channel final ≡ closed_on d (word_of job channel) n
     unfolding close closed_on
     close-length n f =

@@ -1,24 +1,28 @@
 -- What the routines behind close promise: the final length, the old file, and the entry closed at a place.
-use Rattle.std.specs.Prelude.{ℕ, ◌≡◌, cond, not, List, [], ◌∷◌, length, ℤ, leb}
-use Rattle.std.proofs.Math.Option.{Option, none, some}
+use Rattle.std.specs.Prelude.{ℕ, ◌≡◌, true, false, cond, not, List, [], ◌∷◌, length, ℤ, leb, Option, Some, None, Result, Ok, Err}
+use Rattle.std.proofs.Math.Option as maybe
+use Rattle.std.proofs.Math.Option.{none, some}
+use Rattle.meaning.specs.declared.Refusal.{Refusal}
+use Rattle.meaning.specs.declared.Refusal.TheVariants.{WrongChannel}
 use Rattle.meaning.specs.declared.Name.{Name}
 use Rattle.meaning.specs.Kinds.{empty_status}
 use Rattle.meaning.specs.Words.{Row, slot_words, status_word, name_of, date_of}
 use Rattle.meaning.specs.Answers.{Outcome, position_of, success, unless, on_row, Write, put, write, open_on}
-use Rattle.meaning.specs.Requests.{gives_way, over_protected, final_length, closing}
+use Rattle.meaning.specs.Requests.{good_channel, word_of, gives_way, over_protected, final_length, closing}
 use Rattle.segment.specs.declared.finder.Place.{Place}
-use Rattle.segment.specs.declared.finder.Found.{Found}
-use Rattle.segment.specs.declared.finder.Found.TheVariants.{At, Nothing}
-use Rattle.segment.specs.Finder.{place_of, found_of, Inside}
-use Rattle.channels.specs.declared.Final.{Final}
-use Rattle.channels.specs.declared.Final.TheVariants.{Length, Wrong}
+use Rattle.segment.specs.Finder.{Found, place_of, found_of, Inside}
 
--- a final length is wrong where it is no number of blocks, or more than was reserved
-abbrev pub final_under : Option ℕ → ℕ → Final
-final_under none longest = Wrong
-final_under (some n) longest = cond (leb n longest) (Length n) Wrong
+-- the channel word of a job and a channel, or what refuses them
+abbrev pub ChannelWord : Result ℕ Refusal → ℕ → ℕ → Type 0
+ChannelWord (Ok word) job channel = (good_channel job channel ≡ true) × (word ≡ word_of job channel)
+ChannelWord (Err e) job channel = (good_channel job channel ≡ false) × (e ≡ WrongChannel)
 
-unfoldable pub final_by : ℤ → ℕ → Final
+-- a final length is wrong, and so none, where it is no number of blocks, or more than was reserved
+abbrev pub final_under : maybe.Option ℕ → ℕ → Option ℕ
+final_under none longest = None
+final_under (some n) longest = cond (leb n longest) (Some n) None
+
+unfoldable pub final_by : ℤ → ℕ → Option ℕ
 final_by z longest = final_under (final_length z) longest
 
 -- the file that gives way to a new one of this name, as a search answers; and where there is one, the words of its slot lie in the directory
@@ -28,8 +32,8 @@ pub record OldFile (r : Found) (d : List ℕ) (name : Name) : Type 0 where
 
 -- the old file's status
 abbrev pub replacing_at : Found → List Write
-replacing_at (At p) = put p.at status_word empty_status ∷ []
-replacing_at Nothing = []
+replacing_at (Some p) = put p.at status_word empty_status ∷ []
+replacing_at None = []
 
 -- a place is that of the tentative entry on a channel word
 pub record Opened (d : List ℕ) (word : ℕ) (p : Place) : Type 0 where

@@ -5,7 +5,9 @@ use Prim.Native.Nat.{ℕ, ◌+◌, ◌-◌, ◌≤◌, ◌<◌}
 use mathlib.Core.Path.{◌≡◌, refl, sym, ◌∙◌}
 use mathlib.Core.Bool.{Bool, true, false, cond}
 use mathlib.Core.List.{List, [], ◌∷◌, ◌++◌}
-use mathlib.Core.Option.{Option, none, some}
+use mathlib.Core.Option as maybe
+use mathlib.Core.Option.{none, some}
+use Rattle.std.specs.Prelude.{Option, Some, None}
 use native.Mathlib.Omega.{arith}
 use lib.ListN.{length}
 use lib.Dec.{leb, ltb}
@@ -19,18 +21,16 @@ use Rattle.choice.specs.Choice.{all_areas, place_of_area, chosen_of, Stands, Fit
 use Rattle.choice.specs.Room.{room_by}
 use Rattle.choice.specs.Judged.{StandsIn, FitIn}
 use Rattle.choice.specs.declared.choose.AreaPlace.{AreaPlace}
-use Rattle.choice.specs.declared.choose.Chosen.{Chosen}
-use Rattle.choice.specs.declared.choose.Chosen.TheVariants.{At, Nothing}
 use Rattle.choice.proofs.Visits.{areas-same, areas_at, areas-next, areas-none}
 
 -- what is chosen among areas
-abbrev pub choice : ℕ → ℕ → List Area → Chosen
+abbrev pub choice : ℕ → ℕ → List Area → Option AreaPlace
 choice w m xs = chosen_of w (first_fit m (eligibles xs))
 
 -- the first of two choices
-abbrev pub or_else : Chosen → Chosen → Chosen
-or_else (At p) c = At p
-or_else Nothing c = c
+abbrev pub or_else : Option AreaPlace → Option AreaPlace → Option AreaPlace
+or_else (Some p) c = Some p
+or_else None c = c
 
 choice-append : (w m : ℕ) (xs ys : List Area) → choice w m (xs ++ ys) ≡ or_else (choice w m xs) (choice w m ys)
 unfolding eligibles first_fit
@@ -83,12 +83,12 @@ stands p d s m low high h =
     }
 
 module _ {d : List ℕ} {m left s : ℕ} (inv : Choosing d m left s) where
-  pub none-chosen : left ≤ 0 → Fitted Nothing d m
+  pub none-chosen : left ≤ 0 → Fitted None d m
   unfolding eligibles first_fit
   none-chosen h = record { is = rw (areas-none left d s h) at inv.same; stands = tt }
 
   -- one segment more, and c the choice among its areas
-  module _ (h : 0 < left) (c : Chosen) (f : FitIn c (part_of d s) (slot_words d) s (room_at d s) m) where
+  module _ (h : 0 < left) (c : Option AreaPlace) (f : FitIn c (part_of d s) (slot_words d) s (room_at d s) m) where
     one-chosen : or_else c (choice (slot_words d) m (areas d (chain_from (left - 1) d (link_at d s))))
         ≡ choice (slot_words d) m (all_areas d)
     unfolding entries
@@ -103,21 +103,21 @@ module _ {d : List ℕ} {m left s : ℕ} (inv : Choosing d m left s) where
         )
         inv.same
 
-    pub pass_by : c ≡ Nothing → linked (left - 1) d (link_at d s) ≡ true → Choosing d m (left - 1) (link_at d s)
+    pub pass_by : c ≡ None → linked (left - 1) d (link_at d s) ≡ true → Choosing d m (left - 1) (link_at d s)
     pass_by e l = record { links = l; same = rw e at one-chosen }
 
-    pub chosen-here : (p : AreaPlace) → c ≡ At p → Next left d s → Fitted (At p) d m
+    pub chosen-here : (p : AreaPlace) → c ≡ Some p → Next left d s → Fitted (Some p) d m
     chosen-here p e v = record {
       is = rw e at one-chosen;
       stands = stands p d s m v.low v.high (rw e at f.stands);
     }
 
 -- for callers: the area behind a choice, or none
-pub chosen-area : (w : ℕ) (o : Option Area) (p : AreaPlace) → At p ≡ chosen_of w o
+pub chosen-area : (w : ℕ) (o : maybe.Option Area) (p : AreaPlace) → Some p ≡ chosen_of w o
     → (a : Area) × (o ≡ some a) × (p ≡ place_of_area w a)
 chosen-area w none p e = let z : ◌≡◌ {A = ℕ} 0 1 = cc in absurd (omega arith)
 chosen-area w (some a) p e = (a, refl, (cc))
 
-pub chosen_none : (w : ℕ) (o : Option Area) → Nothing ≡ chosen_of w o → o ≡ none
+pub chosen_none : (w : ℕ) (o : maybe.Option Area) → None ≡ chosen_of w o → o ≡ none
 chosen_none w none e = refl
 chosen_none w (some a) e = let z : ◌≡◌ {A = ℕ} 0 1 = cc in absurd (omega arith)

@@ -1,94 +1,61 @@
 -- The first fit in a segment. Its loop keeps one equation: what is chosen among the entries ahead, with entries, words and blocks
--- counted along, is what is chosen among all. Each turn ends at the marker, ends at a fit, or passes one slot by. A fit stands
--- where the counts say: after k slots, and so in the slot that begins at word 5 + k * w. Assumes nothing.
-use Prim.Native.Nat.{ℕ, ◌+◌, ◌*◌, ◌-◌, ◌≤◌, ◌<◌}
-use mathlib.Core.Path.{◌≡◌, refl, ap, ◌∙◌}
+-- counted along, is what is chosen among all. Each turn ends with a fit, or passes one entry by. A fit stands where the counts
+-- say: after k entries, and so in the slot that begins at word 5 + k * w. Assumes nothing.
+use Prim.Native.Nat.{ℕ, suc, ◌+◌, ◌*◌, ◌-◌, ◌≤◌}
+use mathlib.Core.Path.{◌≡◌, refl, sym, ap, ◌∙◌}
 use mathlib.Core.Bool.{Bool, true, false, cond, ◌&&◌}
 use mathlib.Core.List.{List, [], ◌∷◌}
+use Rattle.std.specs.Prelude.{Option, Some, None}
 use native.Mathlib.Nat.{add-mul}
 use native.Mathlib.Omega.{arith}
-use lib.ListN.{length, get_or}
+use lib.ListN.{length, get_or, take, drop}
+use lib.Seq.{drop-drop}
+use Rattle.std.proofs.lemmas.List.{get_or-drop}
 use lib.Dec.{leb}
 use borrow.Author.Tests.{leb-true}
 use Rattle.bools.proofs.Bools.{both}
 use Rattle.meaning.specs.declared.Kind.{Kind}
-use Rattle.meaning.specs.Kinds.{kind_of, is_tentative, is_empty, is_end}
+use Rattle.meaning.specs.Kinds.{is_tentative, is_empty}
 use Rattle.meaning.specs.Words.{Entry, first_of, kind, blocks, slot_count, slots, upto, total}
 use Rattle.meaning.specs.Enter.{Area, cost_after, areas_in, eligibles, first_fit}
-use Rattle.walks.proofs.Words.{word, word0}
-use Rattle.walks.proofs.Slots.{mul_less}
+use Rattle.walks.proofs.Words.{word}
+use Rattle.walks.proofs.Slots.{entries-count, entry_at}
 use Rattle.choice.specs.Choice.{place_of_area, chosen_of}
 use Rattle.choice.specs.Room.{Cost, room_for, eligible_by}
 use Rattle.choice.specs.Judged.{area_from, fitting, FitIn}
-use Rattle.choice.specs.declared.choose.Chosen.{Chosen}
-use Rattle.choice.specs.declared.choose.Chosen.TheVariants.{At, Nothing}
-use Rattle.segment.proofs.Ahead.{slot_at, ahead, ahead-all, ahead_none, ahead-end, ahead-next, total-next, first-room, few-slots}
+use Rattle.choice.specs.declared.choose.AreaPlace.{AreaPlace}
+use Rattle.segment.proofs.Ahead.{slots-room, few-slots}
 
 -- what is chosen among entries of segment s, after k others, from block b on; t: a tentative entry stands directly before
-abbrev pub fits : ℕ → ℕ → ℕ → ℕ → ℕ → ℕ → Bool → List Entry → Chosen
+abbrev pub fits : ℕ → ℕ → ℕ → ℕ → ℕ → ℕ → Bool → List Entry → Option AreaPlace
 fits w s free m k b t es = chosen_of w (first_fit m (eligibles (areas_in (room_for free) s k b t es)))
 
 -- by the tests of an entry: x it is an area, y it is eligible, z it is long enough
 by_tests : (w m : ℕ) (x y z : Bool) (a : Area) (r : List Area) → a.eligible ≡ y → leb m a.size ≡ z
     → chosen_of w (first_fit m (eligibles (cond x (a ∷ r) r)))
-    ≡ cond (x && (y && z)) (At (place_of_area w a)) (chosen_of w (first_fit m (eligibles r)))
+    ≡ cond (x && (y && z)) (Some (place_of_area w a)) (chosen_of w (first_fit m (eligibles r)))
 unfolding eligibles first_fit
 by_tests w m true true true a r e f = rw (e, f)
 by_tests w m true true false a r e f = rw (e, f)
 by_tests w m true false z a r e f = rw e
 by_tests w m false y z a r e f = refl
 
-module _ (w s : ℕ) (free : ℕ) (m : ℕ) where
-  fits-none : (k b : ℕ) (t : Bool) → Nothing ≡ fits w s free m k b t []
-  unfolding areas_in eligibles first_fit
-  fits-none k b t = refl
+fits-none : (w s free m k b : ℕ) (t : Bool) → None ≡ fits w s free m k b t []
+unfolding areas_in eligibles first_fit
+fits-none w s free m k b t = refl
 
-  fits_step : (k b : ℕ) (t : Bool) (e : Entry) (es : List Entry)
-      → fits w s free m k b t (e ∷ es)
-      ≡ cond (fitting m free t (kind e) (blocks e)) (At (place_of_area w (area_from free s k b t e)))
-      (fits w s free m (k + 1) (b + blocks e) (is_tentative (kind e)) es)
-  unfolding areas_in fitting eligible_by
-  fits_step k b t e es =
-      by_tests w m (is_empty (kind e)) (leb 1 (blocks e) && room_for free (cost_after t)) (leb m (blocks e))
-      (area_from free s k b t e)
-      (areas_in (room_for free) s (k + 1) (b + blocks e) (is_tentative (kind e)) es) refl refl
-
-  module _ (g : List ℕ) (left p k b : ℕ) (t : Bool) where
-    fits-over : left ≤ 0 → Nothing ≡ fits w s free m k b t (ahead g w left p)
-    fits-over h = rw (ahead_none g w left p h) (fits-none k b t)
-
-    module _ (h : 0 < left) (wide : 7 ≤ w) where
-      fits-end : is_end (kind_of (get_or g p 0)) ≡ true → Nothing ≡ fits w s free m k b t (ahead g w left p)
-      fits-end e = rw (ahead-end g w left p h wide e) (fits-none k b t)
-
-      module _ (e : is_end (kind_of (get_or g p 0)) ≡ false) where
-        pub fits_miss : fitting m free t (kind_of (get_or g p 0)) (get_or g (p + 4) 0) ≡ false
-            → (u : Bool) → u ≡ is_tentative (kind_of (get_or g p 0))
-            → fits w s free m (k + 1) (b + get_or g (p + 4) 0) u (ahead g w (left - 1) (p + w))
-            ≡ fits w s free m k b t (ahead g w left p)
-        fits_miss f u q =
-            rw (
-              ahead-next g w left p h wide e,
-              fits_step k b t (slot_at g w p) (ahead g w (left - 1) (p + w)),
-              word0 g p w (omega arith),
-              word g p w 4 (omega arith),
-              f,
-              q,
-            )
-
-        pub fits-hit : fitting m free t (kind_of (get_or g p 0)) (get_or g (p + 4) 0) ≡ true
-            → At (place_of_area w (area_from free s k b t (slot_at g w p))) ≡ fits w s free m k b t (ahead g w left p)
-        fits-hit f =
-            rw (
-              ahead-next g w left p h wide e,
-              fits_step k b t (slot_at g w p) (ahead g w (left - 1) (p + w)),
-              word0 g p w (omega arith),
-              word g p w 4 (omega arith),
-              f,
-            )
+fits_step : (w s free m k b : ℕ) (t : Bool) (e : Entry) (es : List Entry)
+    → fits w s free m k b t (e ∷ es)
+    ≡ cond (fitting m free t (kind e) (blocks e)) (Some (place_of_area w (area_from free s k b t e)))
+    (fits w s free m (k + 1) (b + blocks e) (is_tentative (kind e)) es)
+unfolding areas_in fitting eligible_by
+fits_step w s free m k b t e es =
+    by_tests w m (is_empty (kind e)) (leb 1 (blocks e) && room_for free (cost_after t)) (leb m (blocks e))
+    (area_from free s k b t e)
+    (areas_in (room_for free) s (k + 1) (b + blocks e) (is_tentative (kind e)) es) refl refl
 
 -- what a fit's tests say: its length, and that there is free for its cost
-fitting-is : (m : ℕ) (free : ℕ) (t : Bool) (κ : Kind) (n : ℕ) → fitting m free t κ n ≡ true
+fitting-is : (m free : ℕ) (t : Bool) (κ : Kind) (n : ℕ) → fitting m free t κ n ≡ true
     → (1 ≤ n) × (m ≤ n) × (room_for free (cost_after t) ≡ true)
 unfolding fitting eligible_by
 fitting-is m free t κ n h =
@@ -97,88 +64,101 @@ fitting-is m free t κ n h =
     let c = both (leb 1 n) (room_for free (cost_after t)) b.0 in
     (leb-true 1 n c.0, leb-true m n b.1, c.1)
 
--- the loop's invariant: left slots are ahead, from word p on, after k entries; the next begins at block b
-pub record Fitting (g : List ℕ) (w s : ℕ) (free : ℕ) (m left p k b : ℕ) (t : Bool) : Type 0 where
-  pub place : p + left * w ≤ 512
-  pub few : k + left ≤ 507
-  pub word : p ≡ 5 + k * w
+-- the loop's invariant: the entries es are ahead, after k others; the next begins at word a of the directory, and at block b
+pub record Fitting (g : List ℕ) (w s free m : ℕ) (es : List Entry) (k a b : ℕ) (t : Bool) : Type 0 where
+  pub rest : es ≡ drop k (upto (slots w g))
+  pub count : k + length es ≡ length (upto (slots w g))
+  pub place : a ≡ 512 * (s - 1) + 5 + k * w
   pub small : b ≤ 65535 + 65535 * k
-  pub count : k + length (ahead g w left p) ≡ length (upto (slots w g))
-  pub sum : b + total (ahead g w left p) ≡ first_of g + total (upto (slots w g))
-  pub same : fits w s free m k b t (ahead g w left p) ≡ fits w s free m 0 (first_of g) false (upto (slots w g))
+  pub sum : b + total es ≡ first_of g + total (upto (slots w g))
+  pub same : fits w s free m k b t es ≡ fits w s free m 0 (first_of g) false (upto (slots w g))
 
-pub starts : (g : List ℕ) (w s : ℕ) (free : ℕ) (m : ℕ) → first_of g ≤ 65535
-    → Fitting g w s free m (slot_count w) 5 0 (first_of g) false
+pub starts : (g : List ℕ) (w s free m : ℕ) → first_of g ≤ 65535
+    → Fitting g w s free m (upto (slots w g)) 0 (512 * (s - 1) + 5) (first_of g) false
 starts g w s free m l = record {
-  place = first-room w;
-  few = omega (arith, few-slots w);
-  word = omega arith;
+  rest = refl;
+  count = omega arith;
+  place = omega arith;
   small = omega arith;
-  count = rw (ahead-all g w) (omega arith);
-  sum = rw (ahead-all g w);
-  same = rw (ahead-all g w);
+  sum = refl;
+  same = refl;
 }
 
--- the loop ends without a fit
-module _ {g : List ℕ} {w s free m left p k b : ℕ} {t : Bool} (inv : Fitting g w s free m left p k b t) where
-  pub fit-over : left ≤ 0 → FitIn Nothing g w s (room_for free) m
-  fit-over h = record { is = fits-over w s free m g left p k b t h ∙ inv.same; stands = tt }
+-- the first of those left behind k others, and the rest
+first_dropped : (k : ℕ) (xs : List Entry) (e : Entry) (es : List Entry) → e ∷ es ≡ drop k xs → (e ≡ get_or xs k []) × (es ≡ drop (k + 1) xs)
+first_dropped k xs e es h =
+    let here : k + 0 ≡ k = omega arith in (
+      ap (λ (l : List Entry). get_or l 0 []) h ∙ get_or-drop k xs 0 [] ∙ ap (λ (i : ℕ). get_or xs i []) here,
+      ap (λ (l : List Entry). drop 1 l) h ∙ drop-drop 1 k xs,
+    )
 
-  pub fit-end : 0 < left → 7 ≤ w → is_end (kind_of (get_or g p 0)) ≡ true → FitIn Nothing g w s (room_for free) m
-  fit-end h wide e = record { is = fits-end w s free m g left p k b t h wide e ∙ inv.same; stands = tt }
+-- what each turn gives, where the entry e is the first of those ahead, and the loop's end
+module _ {g : List ℕ} {w s free m : ℕ} {es : List Entry} {k a b : ℕ} {t : Bool} (v : Fitting g w s free m es k a b t) where
+  pub no_fit_left : es ≡ [] → FitIn None g w s (room_for free) m
+  no_fit_left e = record { is = fits-none w s free m k b t ∙ ap (fits w s free m k b t) (sym e) ∙ v.same; stands = tt }
 
--- the ways through the loop's body that pass the marker's test
-module _ {g : List ℕ} {w s free m left p k b : ℕ} {t : Bool} (inv : Fitting g w s free m left p k b t)
-    (h : 0 < left) (wide : 7 ≤ w) (e : is_end (kind_of (get_or g p 0)) ≡ false) where
-  one-ahead : length (ahead g w left p) ≡ 1 + length (ahead g w (left - 1) (p + w))
-  one-ahead = ap length (ahead-next g w left p h wide e) ∙ omega arith
+  module _ (e : Entry) (others : List Entry) (next : es ≡ e ∷ others) where
+    ahead_of : length es ≡ suc (length others)
+    ahead_of = ap length next
 
-  pub fit_miss : fitting m free t (kind_of (get_or g p 0)) (get_or g (p + 4) 0) ≡ false → get_or g (p + 4) 0 ≤ 65535
-      → (u : Bool) → u ≡ is_tentative (kind_of (get_or g p 0))
-      → Fitting g w s free m (left - 1) (p + w) (k + 1) (b + get_or g (p + 4) 0) u
-  fit_miss f l u q =
-      let o = one-ahead in
-      let d = total-next g w left p h wide e in
-      let y = mul_less left w h in
-      let z = add-mul k 1 w in
-      record {
-        place = omega arith;
-        few = omega arith;
-        word = omega arith;
-        small = omega arith;
-        count = omega arith;
-        sum = omega arith;
-        same = fits_miss w s free m g left p k b t h wide e f u q ∙ inv.same;
-      }
+    -- it stands in the slot after k others, which lies in the segment
+    pub slot_fits : 5 + k * w + w ≤ 512
+    slot_fits =
+        let l : k + 1 ≤ slot_count w = omega (arith, v.count, ahead_of, entries-count w g) in
+        omega (arith, slots-room (k + 1) w l, add-mul k 1 w)
 
-  -- a fit, by the numbers that code has counted
-  pub fit_hit : fitting m free t (kind_of (get_or g p 0)) (get_or g (p + 4) 0) ≡ true
-      → (cost : ℕ) → Cost cost t
-      → FitIn (At (record { seg = s; before = k; at = 512 * (s - 1) + p; first = b; size = get_or g (p + 4) 0; cost = cost }))
-      g w s (room_for free) m
-  fit_hit f cost c =
-      let o = one-ahead in
-      let d = total-next g w left p h wide e in
-      let y = mul_less left w h in
-      let l = fitting-is m free t (kind_of (get_or g p 0)) (get_or g (p + 4) 0) f in
-      let at : 512 * (s - 1) + p ≡ 512 * (s - 1) + 5 + k * w = omega arith in
-      let same : At (record { seg = s; before = k; at = 512 * (s - 1) + p; first = b; size = get_or g (p + 4) 0; cost = cost })
-      ≡ At (place_of_area w (area_from free s k b t (slot_at g w p))) =
-      rw (at, c.is, word g p w 4 (omega arith)) in
-      let back : 512 * (s - 1) + p - 512 * (s - 1) ≡ p = omega arith in
-      record {
-        is = same ∙ fits-hit w s free m g left p k b t h wide e f ∙ inv.same;
-        stands = record {
-          seg = refl;
-          low = omega arith;
-          inside = omega arith;
-          among = omega arith;
-          word = rw back;
-          ends = omega arith;
-          long = l.1;
-          some = l.0;
-          costs = c.some;
-          cheap = c.small;
-          roomy = rw c.is l.2;
-        };
-      }
+    pub few : k ≤ 507
+    few = omega (arith, v.count, ahead_of, entries-count w g, few-slots w)
+
+    sums : total es ≡ blocks e + total others
+    unfolding total
+    sums = rw next
+
+    -- its length, as the segment has it
+    length-is : 7 ≤ w → blocks e ≡ get_or g (5 + k * w + 4) 0
+    unfolding slots
+    length-is wide =
+        let at : e ≡ take w (drop (k * w) (drop 5 g)) =
+        (first_dropped k (upto (slots w g)) e others (sym next ∙ v.rest)).0 ∙ entry_at (slot_count w) w (drop 5 g) k (omega (arith, v.count, ahead_of)) in
+        ap blocks at ∙ rw (drop-drop (k * w) 5 g) (word g (5 + k * w) w 4 (omega arith))
+
+    step : fits w s free m k b t es
+        ≡ cond (fitting m free t (kind e) (blocks e)) (Some (place_of_area w (area_from free s k b t e)))
+        (fits w s free m (k + 1) (b + blocks e) (is_tentative (kind e)) others)
+    step = ap (fits w s free m k b t) next ∙ fits_step w s free m k b t e others
+
+    pub fit_miss : fitting m free t (kind e) (blocks e) ≡ false → blocks e ≤ 65535
+        → Fitting g w s free m others (k + 1) (a + w) (b + blocks e) (is_tentative (kind e))
+    fit_miss f l = record {
+      rest = (first_dropped k (upto (slots w g)) e others (sym next ∙ v.rest)).1;
+      count = omega (arith, v.count, ahead_of);
+      place = omega (arith, v.place, add-mul k 1 w);
+      small = omega (arith, v.small);
+      sum = omega (arith, v.sum, sums);
+      same = sym (step ∙ rw f) ∙ v.same;
+    }
+
+    -- a fit, by the numbers that code has counted
+    pub fit_hit : fitting m free t (kind e) (blocks e) ≡ true → 7 ≤ w → (cost : ℕ) → Cost cost t
+        → FitIn (Some (record { seg = s; before = k; at = a; first = b; size = blocks e; cost = cost })) g w s (room_for free) m
+    fit_hit f wide cost c =
+        let l = fitting-is m free t (kind e) (blocks e) f in
+        let same : Some (record { seg = s; before = k; at = a; first = b; size = blocks e; cost = cost })
+        ≡ Some (place_of_area w (area_from free s k b t e)) = rw (v.place, c.is) in
+        let back : a - 512 * (s - 1) + 4 ≡ 5 + k * w + 4 = omega (arith, v.place) in
+        record {
+          is = same ∙ sym (step ∙ rw f) ∙ v.same;
+          stands = record {
+            seg = refl;
+            low = omega (arith, v.place);
+            inside = omega (arith, v.place, slot_fits);
+            among = omega (arith, v.count, ahead_of);
+            word = length-is wide ∙ rw back;
+            ends = omega (arith, v.sum, sums);
+            long = l.1;
+            some = l.0;
+            costs = c.some;
+            cheap = c.small;
+            roomy = rw c.is l.2;
+          };
+        }

@@ -5,19 +5,17 @@ use mathlib.Core.Path.{◌≡◌, refl, sym, ap, ◌∙◌}
 use mathlib.Core.Bool.{Bool, true, false, cond, ◌&&◌, false≢true}
 use mathlib.Core.List.{List, [], ◌∷◌}
 use lib.Dec.{leb}
+use Rattle.std.specs.Prelude.{Option, Some, None}
+use Rattle.std.specs.List.{list_any}
 use Rattle.bools.proofs.Bools.{neither}
-use Rattle.meaning.specs.declared.Kind.{Kind}
-use Rattle.meaning.specs.Kinds.{kind_of, is_tentative, is_empty}
+use Rattle.meaning.specs.Kinds.{is_tentative, is_empty}
 use Rattle.meaning.specs.Words.{Entry, first_of, kind, blocks, slots, upto}
 use Rattle.meaning.specs.Sound.{any}
 use Rattle.meaning.specs.Enter.{Area, cost_after, areas_in, eligibles, first_fit}
-use Rattle.segment.proofs.Ahead.{ahead}
-use Rattle.segment.proofs.Looking.{meets, Looking}
 use Rattle.choice.specs.Choice.{chosen_of}
 use Rattle.choice.specs.Room.{room_for, room_by, Free}
 use Rattle.choice.specs.Judged.{long, long_entry, StandingIn, FitIn}
-use Rattle.choice.specs.declared.choose.Chosen.{Chosen}
-use Rattle.choice.specs.declared.choose.Chosen.TheVariants.{At, Nothing}
+use Rattle.choice.specs.declared.choose.AreaPlace.{AreaPlace}
 use Rattle.choice.proofs.Visits.{areas-same}
 
 -- by the tests of an entry: x it is an area, y it is eligible, z it is long enough, and not both x and z
@@ -29,12 +27,12 @@ by_tests w m true true false a r e f g = rw (e, f)
 by_tests w m true false z a r e f g = rw e
 by_tests w m false y z a r e f g = refl
 
-none-chosen : (w m : ℕ) → Nothing ≡ chosen_of w (first_fit m (eligibles []))
+none-chosen : (w m : ℕ) → None ≡ chosen_of w (first_fit m (eligibles []))
 unfolding eligibles first_fit
 none-chosen w m = refl
 
 none-fits : (w m : ℕ) (room : ℕ → Bool) (s k b : ℕ) (p : Bool) (es : List Entry) → any (long_entry m) es ≡ false
-    → Nothing ≡ chosen_of w (first_fit m (eligibles (areas_in room s k b p es)))
+    → None ≡ chosen_of w (first_fit m (eligibles (areas_in room s k b p es)))
 unfolding any long areas_in
 none-fits w m room s k b p [] h = none-chosen w m
 none-fits w m room s k b p (e ∷ es) h =
@@ -46,14 +44,14 @@ none-fits w m room s k b p (e ∷ es) h =
     (areas_in room s (k + 1) (b + blocks e) (is_tentative (kind e)) es) refl refl n.0)
 
 pub no-fit : (g : List ℕ) (w s : ℕ) (room : ℕ → Bool) (m : ℕ) → any (long_entry m) (upto (slots w g)) ≡ false
-    → FitIn Nothing g w s room m
+    → FitIn None g w s room m
 no-fit g w s room m h = record { is = none-fits w m room s 0 (first_of g) false (upto (slots w g)) h; stands = tt }
 
 -- the same fit, where the free slots stand for the room
-stands_by : (r : Chosen) (g : List ℕ) (w s free : ℕ) (spare : Bool) (n m : ℕ) → Free free w spare n
+stands_by : (r : Option AreaPlace) (g : List ℕ) (w s free : ℕ) (spare : Bool) (n m : ℕ) → Free free w spare n
     → StandingIn r g w s (room_for free) m → StandingIn r g w s (room_by w spare n) m
-stands_by Nothing g w s free spare n m q h = tt
-stands_by (At p) g w s free spare n m q h = record {
+stands_by None g w s free spare n m q h = tt
+stands_by (Some p) g w s free spare n m q h = record {
   seg = h.seg;
   low = h.low;
   inside = h.inside;
@@ -67,7 +65,7 @@ stands_by (At p) g w s free spare n m q h = record {
   roomy = sym (q.is p.cost h.costs h.cheap) ∙ h.roomy;
 }
 
-pub fit_by : (r : Chosen) (g : List ℕ) (w s free : ℕ) (spare : Bool) (n m : ℕ) → Free free w spare n
+pub fit_by : (r : Option AreaPlace) (g : List ℕ) (w s free : ℕ) (spare : Bool) (n m : ℕ) → Free free w spare n
     → FitIn r g w s (room_for free) m → FitIn r g w s (room_by w spare n) m
 fit_by r g w s free spare n m q f = record {
   is =
@@ -77,17 +75,8 @@ fit_by r g w s free spare n m q f = record {
   stands = stands_by r g w s free spare n m q f.stands;
 }
 
--- the loop that looks asks nothing of the entry before
-abbrev pub long_test : ℕ → Kind → Kind → ℕ → Bool
-long_test m b κ n = long m κ n
-
-pub long-found : (m : ℕ) (b : Kind) (es : List Entry) → meets (long_test m) b es ≡ any (long_entry m) es
-unfolding meets any
-long-found m b [] = refl
-long-found m b (e ∷ es) = rw (long-found m (kind e) es)
-
-pub any-before : (m : ℕ) {g : List ℕ} {w left p b : ℕ} {r : Bool} → Looking (long_test m) g w left p b r → Looking (long_test m) g w left p 0 r
-any-before m {g} {w} {left} {p} {b} l = record {
-  place = l.place;
-  same = long-found m (kind_of 0) (ahead g w left p) ∙ sym (long-found m (kind_of b) (ahead g w left p)) ∙ l.same;
-}
+-- one of the entries is long, as code asks
+pub any-long : (m : ℕ) (es : List Entry) → list_any (long_entry m) es ≡ any (long_entry m) es
+unfolding any
+any-long m [] = refl
+any-long m (e ∷ es) = rw (any-long m es)

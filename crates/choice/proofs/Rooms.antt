@@ -1,6 +1,6 @@
 -- Free slots as a number. Beside n entries a cost has room where it is at most what is left of C; and where a segment is spare, as for
 -- any cost up to 2, two slots are as good as free. Assumes nothing.
-use Prim.Native.Nat.{ℕ, ◌+◌, ◌-◌, ◌≤◌, ◌<◌}
+use Prim.Native.Nat.{ℕ, ◌+◌, ◌-◌, ◌≤◌}
 use mathlib.Core.Path.{◌≡◌, sym, ◌∙◌}
 use mathlib.Core.Bool.{true, false, or-true, or-false}
 use mathlib.Core.Logic.{⊎_elim}
@@ -18,12 +18,8 @@ same_test a b c e f g =
     (λ l. le-leb a b l ∙ sym (le-leb c e (f l)))
     (either_side b a)
 
-module _ (n w : ℕ) where
-  pub none_free : slot_count w - 1 ≤ n → FreeOf 0 n w
-  none_free h = record { is = λ c l. same_test c 0 (n + c) (slot_count w - 1) (λ m. omega arith) (λ m. omega arith) }
-
-  pub some-free : n < slot_count w - 1 → FreeOf (slot_count w - 1 - n) n w
-  some-free h = record { is = λ c l. same_test c (slot_count w - 1 - n) (n + c) (slot_count w - 1) (λ m. omega arith) (λ m. omega arith) }
+pub left-free : (n w : ℕ) → FreeOf (slot_count w - 1 - n) n w
+left-free n w = record { is = λ c l. same_test c (slot_count w - 1 - n) (n + c) (slot_count w - 1) (λ m. omega arith) (λ m. omega arith) }
 
 pub spare_free : (w n : ℕ) → Free 2 w true n
 spare_free w n = record { is = λ c l m. le-leb c 2 m ∙ sym (or-true (leb (n + c) (slot_count w - 1))) }

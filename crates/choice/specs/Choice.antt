@@ -1,11 +1,10 @@
 -- What the choice among a directory's areas promises.
-use Rattle.std.specs.Prelude.{ℕ, ◌+◌, ◌*◌, ◌-◌, ◌≤◌, ◌<◌, ◌≡◌, true, List, length, get_or}
-use Rattle.std.proofs.Math.Option.{Option, none, some}
+use Rattle.std.specs.Prelude.{ℕ, ◌+◌, ◌*◌, ◌-◌, ◌≤◌, ◌<◌, ◌≡◌, true, List, length, get_or, Option, Some, None}
+use Rattle.std.proofs.Math.Option as maybe
+use Rattle.std.proofs.Math.Option.{none, some}
 use Rattle.meaning.specs.Words.{segment, first_of, highest, slot_words, length_word, entries, total, chain}
 use Rattle.meaning.specs.Enter.{Area, has_room, areas, eligibles, first_fit}
 use Rattle.choice.specs.declared.choose.AreaPlace.{AreaPlace}
-use Rattle.choice.specs.declared.choose.Chosen.{Chosen}
-use Rattle.choice.specs.declared.choose.Chosen.TheVariants.{At, Nothing}
 
 -- the areas of a directory, in chain order
 abbrev pub all_areas : List ℕ → List Area
@@ -22,10 +21,10 @@ place_of_area w a = record {
   cost = a.cost;
 }
 
--- what a choice answers: the place of the area that it finds, or nothing
-abbrev pub chosen_of : ℕ → Option Area → Chosen
-chosen_of w none = Nothing
-chosen_of w (some a) = At (place_of_area w a)
+-- what a choice answers: the place of the area that it finds, if any
+abbrev pub chosen_of : ℕ → maybe.Option Area → Option AreaPlace
+chosen_of w none = None
+chosen_of w (some a) = Some (place_of_area w a)
 
 -- a place p chosen in t, for a length of n. Its segment is in use, its slot lies in the segment and is an entry's, its length is
 -- the slot's length word, and its blocks are among the segment's; it is long enough and at least 1, and it costs 1 or 2 slots,
@@ -43,11 +42,11 @@ pub record Stands (p : AreaPlace) (t : List ℕ) (n : ℕ) : Type 0 where
   pub cheap : p.cost ≤ 2
   pub roomy : has_room t (entries t p.seg) p.cost ≡ true
 
-abbrev pub Standing : Chosen → List ℕ → ℕ → Type 0
-Standing (At p) t n = Stands p t n
-Standing Nothing t n = Unit {0}
+abbrev pub Standing : Option AreaPlace → List ℕ → ℕ → Type 0
+Standing (Some p) t n = Stands p t n
+Standing None t n = Unit {0}
 
 -- the answer r: of the areas that may be taken the first that has n blocks
-pub record Fitted (r : Chosen) (t : List ℕ) (n : ℕ) : Type 0 where
+pub record Fitted (r : Option AreaPlace) (t : List ℕ) (n : ℕ) : Type 0 where
   pub is : r ≡ chosen_of (slot_words t) (first_fit n (eligibles (all_areas t)))
   pub stands : Standing r t n

@@ -1,5 +1,5 @@
 -- What the choice in one segment promises, entry by entry.
-use Rattle.std.specs.Prelude.{ℕ, ◌+◌, ◌*◌, ◌-◌, ◌≤◌, ◌<◌, ◌≡◌, Bool, true, false, ◌&&◌, List, length, get_or, leb}
+use Rattle.std.specs.Prelude.{ℕ, ◌+◌, ◌*◌, ◌-◌, ◌≤◌, ◌<◌, ◌≡◌, Bool, true, false, ◌&&◌, List, length, get_or, leb, Option, Some, None}
 use Rattle.meaning.specs.declared.Kind.{Kind}
 use Rattle.meaning.specs.Kinds.{is_empty}
 use Rattle.meaning.specs.Words.{Entry, first_of, slots, upto, kind, blocks, length_word, total}
@@ -7,8 +7,6 @@ use Rattle.meaning.specs.Enter.{Area, cost_after, areas_in, eligibles, first_fit
 use Rattle.choice.specs.Choice.{chosen_of}
 use Rattle.choice.specs.Room.{eligible_by}
 use Rattle.choice.specs.declared.choose.AreaPlace.{AreaPlace}
-use Rattle.choice.specs.declared.choose.Chosen.{Chosen}
-use Rattle.choice.specs.declared.choose.Chosen.TheVariants.{At, Nothing}
 
 -- the area that an entry e of segment s is, after k others, from block b on
 abbrev pub area_from : ℕ → ℕ → ℕ → ℕ → Bool → Entry → Area
@@ -46,11 +44,11 @@ pub record StandsIn (p : AreaPlace) (g : List ℕ) (w s : ℕ) (room : ℕ → B
   pub cheap : p.cost ≤ 2
   pub roomy : room p.cost ≡ true
 
-abbrev pub StandingIn : Chosen → List ℕ → ℕ → ℕ → (ℕ → Bool) → ℕ → Type 0
-StandingIn (At p) g w s room m = StandsIn p g w s room m
-StandingIn Nothing g w s room m = Unit {0}
+abbrev pub StandingIn : Option AreaPlace → List ℕ → ℕ → ℕ → (ℕ → Bool) → ℕ → Type 0
+StandingIn (Some p) g w s room m = StandsIn p g w s room m
+StandingIn None g w s room m = Unit {0}
 
 -- the answer r for segment s
-pub record FitIn (r : Chosen) (g : List ℕ) (w s : ℕ) (room : ℕ → Bool) (m : ℕ) : Type 0 where
+pub record FitIn (r : Option AreaPlace) (g : List ℕ) (w s : ℕ) (room : ℕ → Bool) (m : ℕ) : Type 0 where
   pub is : r ≡ chosen_of w (first_fit m (eligibles (areas_in room s 0 (first_of g) false (upto (slots w g)))))
   pub stands : StandingIn r g w s room m

@@ -1,47 +1,28 @@
 // The size that an enter asks for, and how many blocks it comes to.
 ghost use Rattle.std.specs.Prelude.{◌≡◌};
-ghost use Rattle.meaning.specs.Enter.{size_of, good_size, at_least};
-ghost use Rattle.choice.specs.Asks.{size_by, Wanted};
+ghost use Rattle.meaning.specs.Enter.{size_of, at_least};
+ghost use Rattle.choice.specs.Asks.{size_by, asked_by, wanted_by};
 
-// What a size asks for: -1 the longest eligible area, 0 RT-11's default, 1 to 65,535 exactly so many blocks; any other is wrong.
+// What a size asks for: -1 the longest eligible area, 0 RT-11's default, 1 to 65,535 exactly so many blocks.
 // Signed numbers end here: behind this enum every length is unsigned.
-#[derive(Clone, Copy)]
+#[derive(Clone, Copy, PartialEq, Eq)]
 pub enum Asked {
     Longest,
     Default,
-    Wrong,
     Exact(u16),
 }
 
-// What this size asks for.
-pub fn size_of(size: i32) -> Asked
-    ensures { size_by result ≡ size_of size }
+// What this size asks for; nothing where it is wrong, which is the half of refusal 9 that speaks of sizes.
+pub fn size_of(size: i32) -> Option<Asked>
+    ensures { asked_by result ≡ size_of size }
 {
     if size == -1 {
-        return Asked::Longest;
+        return Some(Asked::Longest);
     }
-    if size < 0 {
-        return Asked::Wrong;
-    }
-    let blocks = size as u32;
-    if blocks == 0 {
-        return Asked::Default;
-    }
-    if 65535 < blocks {
-        return Asked::Wrong;
-    }
-    Asked::Exact(blocks as u16)
-}
-
-// Whether the size is one that can be asked for: the half of refusal 9 that speaks of sizes.
-pub fn is_good_size(asked: Asked) -> bool
-    ensures { result ≡ good_size (size_by asked) }
-{
-    match asked {
-        Asked::Longest => true,
-        Asked::Default => true,
-        Asked::Wrong => false,
-        Asked::Exact(_) => true,
+    match u16::try_from(size) {
+        Ok(0) => Some(Asked::Default),
+        Ok(blocks) => Some(Asked::Exact(blocks)),
+        Err(_) => None,
     }
 }
 
@@ -51,27 +32,18 @@ pub fn at_least(asked: Asked) -> usize
     ensures { result ≡ at_least (size_by asked) }
 {
     match asked {
-        Asked::Longest => 1,
-        Asked::Default => 1,
-        Asked::Wrong => 1,
+        Asked::Longest | Asked::Default => 1,
         Asked::Exact(blocks) => blocks as usize,
     }
 }
 
 // How many blocks the size comes to, where the longest and the second longest eligible area are known. A half is rounded up.
-pub fn wanted_of(asked: Asked, longest: u16, second: u16) -> usize
-    ensures { Wanted result asked longest second }
+pub fn wanted_of(asked: Asked, longest: u16, second: u16) -> u16
+    ensures { result ≡ wanted_by (size_by asked) longest second }
 {
     match asked {
-        Asked::Longest => longest as usize,
-        Asked::Default => {
-            let half = (longest as usize + 1) / 2;
-            if half <= second as usize {
-                return second as usize;
-            }
-            half
-        }
-        Asked::Wrong => 0,
-        Asked::Exact(blocks) => blocks as usize,
+        Asked::Longest => longest,
+        Asked::Default => longest.div_ceil(2).max(second),
+        Asked::Exact(blocks) => blocks,
     }
 }

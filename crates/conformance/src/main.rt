@@ -6,11 +6,27 @@
 mod changes;
 mod records;
 
-ghost use Rattle.std.specs.Prelude.{◌≡◌, ◌≤◌, length};
+ghost use Rattle.std.specs.Prelude.{◌≤◌};
 
-use cases::input::{read_bytes, word_at};
-use cases::state::{State, refused, stopped};
-use cases::{Console, Why};
+use batchcases::take_batch;
+use cases::input::{CaseFile, Head, word_at};
+use cases::{Stop, Why};
+use labelcases::take_block;
+use loadcases::take_memory;
+use records::{start_fresh, take_directory, take_request, write_fault};
+use squeezecases::take_squeeze;
+use std::io::Read;
+use streams::{complain, fail};
+
+// The words of 31 segments, which is the most that a case may hand in.
+const WORDS: usize = 15872;
+
+// The present directory has the first `words` of the words kept, on a volume of so many blocks.
+#[derive(Clone, Copy)]
+struct Size {
+    words: usize,
+    blocks: usize,
+}
 
 // How many bytes stand behind a type in every record of it, before the words that are counted there.
 fn head_bytes(number: u16) -> usize
@@ -29,96 +45,71 @@ fn head_bytes(number: u16) -> usize
 }
 
 // A record's type, and what stands behind it in every record of the type.
-fn read_head(rt: &impl Console, head: &mut [u8], state: State) -> State
-    requires { (length head.old ≡ 30) × (state.words ≤ 15872) }
-    ensures { result.words ≤ 15872 }
-{
-    let next = read_bytes(rt, &mut head[0..2], state, true);
-    if !next.going {
-        return next;
-    }
-    let n = head_bytes(word_at(head, 0));
-    read_bytes(rt, &mut head[2..2 + n], next, false)
-}
-
-// What the types of our own ask for: those from 100 on.
-fn take_own(rt: &impl Console, d: &mut [u16], state: State, head: &[u8]) -> State
-    requires { (length d.old ≡ 15872) × (state.words ≤ 15872) × (length head.now ≡ 30) }
-    ensures { result.words ≤ 15872 }
-{
-    let number = word_at(head, 0);
-    match number {
-        100 => batchcases::take_batch(rt, d, state, head),
-        101 => changes::take_changes(rt, d, state, head),
-        _ => refused(rt, Why::Type, number as u32, state, 2),
-    }
-}
-
-// What the types ask for that came from outside and have nothing to do with the directory: a label or a load file, read or written.
-fn take_later(rt: &impl Console, d: &mut [u16], state: State, head: &[u8]) -> State
-    requires { (length d.old ≡ 15872) × (state.words ≤ 15872) × (length head.now ≡ 30) }
-    ensures { result.words ≤ 15872 }
-{
-    match word_at(head, 0) {
-        7 | 8 => labelcases::take_block(rt, state, head),
-        9 | 10 | 11 => loadcases::take_memory(rt, state, head),
-        _ => take_own(rt, d, state, head),
-    }
-}
-
-// What the type asks for.
-fn take_kind(rt: &impl Console, d: &mut [u16], state: State, head: &[u8]) -> State
-    requires { (length d.old ≡ 15872) × (state.words ≤ 15872) × (length head.now ≡ 30) }
-    ensures { result.words ≤ 15872 }
-{
-    match word_at(head, 0) {
-        0 => stopped(),
-        1 => records::take_directory(rt, d, state, head),
-        2 => records::start_fresh(rt, d, state, head),
-        3 => records::take_request(rt, d, state, head),
-        4 => squeezecases::take_squeeze(rt, d, state, head),
-        _ => take_later(rt, d, state, head),
-    }
-}
-
-// One record.
-fn take_record(rt: &impl Console, d: &mut [u16], state: State) -> State
-    requires { (length d.old ≡ 15872) × (state.words ≤ 15872) }
-    ensures { result.words ≤ 15872 }
-{
+fn read_head<R: Read>(file: &mut CaseFile<R>) -> Result<Head, Stop> {
     let mut head = [0u8; 30];
-    let next = read_head(rt, &mut head, state);
-    if !next.going {
-        return next;
-    }
-    take_kind(rt, d, next, &head)
+    file.read_first(&mut head[..2])?;
+    let n = head_bytes(word_at(&head, 0));
+    file.read(&mut head[2..2 + n])?;
+    Ok(head)
 }
 
-// A proved loop has to end, and nothing says that the input does: so the turns are counted down, from a number that no run uses up.
-fn run(rt: &impl Console, d: &mut [u16], start: State)
-    requires { (length d.old ≡ 15872) × (start.words ≤ 15872) }
-{
-    let mut state = start;
-    let mut turns = u64::MAX;
-    while turns > 0 {
-        if !state.going {
-            return;
+// What a type asks for that leaves the directory its size.
+fn take_kind<R: Read>(
+    rt: &impl Print,
+    file: &mut CaseFile<R>,
+    d: &mut [u16],
+    blocks: usize,
+    head: &Head,
+) -> Result<(), Stop> {
+    match word_at(head, 0) {
+        2 => start_fresh(rt, d, blocks, head),
+        3 => take_request(rt, file, d, blocks, head),
+        4 => take_squeeze(rt, file, d, blocks, head),
+        7 | 8 => take_block(rt, file, head),
+        9 | 10 | 11 => take_memory(rt, file, head),
+        100 => take_batch(rt, file, d, blocks, head),
+        101 => {
+            changes::change_words(file, d, word_at(head, 2))?;
+            write_fault(rt, d, blocks)
         }
-        state = take_record(rt, d, state);
-        turns -= 1;
+        number => Err(file.refused(Why::Type, number as u32, 2)),
+    }
+}
+
+// Record after record, up to the end record. A proved loop has to end, and nothing says that the input does: so the turns are counted, up to a
+// number that no run comes to.
+fn run<R: Read>(
+    rt: &impl Print,
+    file: &mut CaseFile<R>,
+    room: &mut [u16; WORDS],
+) -> Result<(), Stop> {
+    let mut size = Size {
+        words: 0,
+        blocks: 0,
+    };
+    for _ in 0..u64::MAX {
+        let head = read_head(file)?;
+        match word_at(&head, 0) {
+            0 => break,
+            1 => size = take_directory(rt, file, room, &head)?,
+            _ => take_kind(rt, file, &mut room[..size.words], size.blocks, &head)?,
+        }
+    }
+    Ok(())
+}
+
+// One line on standard error. Whether it got out there is no matter: the run ends anyway.
+fn report(rt: &(impl Eprint + Alloc), stop: Stop) {
+    match stop {
+        Stop::Fault(fault) => complain(rt, b"conformance", fault),
+        Stop::Input(error) => fail(rt, b"conformance: standard input", error),
+        Stop::Output(error) => fail(rt, b"conformance: standard output", error),
     }
 }
 
 fn main(rt: HostRuntime) {
-    let mut d = [0u16; 15872];
-    run(
-        &rt,
-        &mut d[..],
-        State {
-            going: true,
-            words: 0,
-            blocks: 0,
-            offset: 0,
-        },
-    );
+    let mut file = CaseFile::new(rt.reader());
+    if let Err(stop) = run(&rt, &mut file, &mut [0u16; WORDS]) {
+        report(&rt, stop);
+    }
 }

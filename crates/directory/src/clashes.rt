@@ -15,7 +15,7 @@ ghost use Rattle.directory.specs.Buckets.{numbered, seen, Places, hashed, bucket
 use meaning::{Key, is_spared};
 use segment::entries::entries_of;
 use segment::entry::Entry;
-use segment::finder::is_keyed;
+use segment::finder::slot_keyed;
 use segment::kinds;
 
 // A number for each slot of 31 segments with 72 slots each, and number 0.
@@ -147,7 +147,7 @@ impl<'a> Listed<'a> {
         let mut number: usize = first;
         // A `while`, since each turn goes where the table leads, and counts nothing.
         while 0 < number {
-            if is_keyed(&self.entry(number), key) {
+            if slot_keyed(&self.entry(number), key) {
                 return is_once(key);
             }
             number = earlier[number] as usize;

@@ -31,5 +31,5 @@ pub fn lookup(d: &[u16], v: usize, name: Name) -> Answer
     if number != 0 {
         return refused(number);
     }
-    lookup_sound(d, v, name)
+    Answer::from(lookup_sound(d, v, name))
 }

@@ -3,11 +3,12 @@ ghost use Rattle.std.specs.Prelude.{◌≡◌};
 ghost use Rattle.meaning.specs.Sound.{fault};
 ghost use Rattle.meaning.specs.Requests.{fresh};
 ghost use Rattle.meaning.specs.Answers.{Meets};
+ghost use Rattle.meaning.specs.Told.{told};
 
 use chain::head::size_wrong;
 use directory::sound::fault_of;
 use edits::fresh::start_fresh;
-use meaning::{Answer, Position, refused, succeeded};
+use meaning::{Answer, Granted, Position, Refusal};
 
 // The number of the smallest fault, 1 to 6, or 0 for a sound directory.
 pub fn fault(d: &[u16], v: usize) -> u16
@@ -20,17 +21,27 @@ pub fn fault(d: &[u16], v: usize) -> u16
 pub fn fresh(d: &mut [u16], v: usize, extra: usize) -> Answer
     ensures { Meets result d.new (fresh v d.old extra) }
 {
+    Answer::from(started(d, v, extra))
+}
+
+fn started(d: &mut [u16], v: usize, extra: usize) -> Result<Granted, Refusal>
+    ensures { Meets (told result) d.new (fresh v d.old extra) }
+{
     if size_wrong(v, d.len()) {
-        return refused(1);
+        return Err(Refusal::WrongSizes);
     }
     if 16 < extra {
-        return refused(2);
+        return Err(Refusal::WrongExtra);
     }
     let first = 6 + 2 * (d.len() / 512);
     start_fresh(d, v, extra);
-    let area = Position {
-        segment: 1,
-        slot: 1,
-    };
-    succeeded(first as u16, (v - first) as u16, 0, area)
+    Ok(Granted {
+        first: first as u16,
+        length: (v - first) as u16,
+        date: 0,
+        position: Position {
+            segment: 1,
+            slot: 1,
+        },
+    })
 }

@@ -1,19 +1,13 @@
--- A fresh start written word by word. Words that are cleared one after the other are all 0 in the end; and then each word that is set
--- stands where the rendered segment has it: header, entry, extras, marker, zeros. Assumes nothing.
+-- A fresh start written word by word: among words that are all 0, each word that is set stands where the rendered segment has it: header, entry, extras, marker, zeros. Assumes nothing.
 use Prim.Native.Nat.{ℕ, zero, suc, ◌+◌, ◌*◌, ◌-◌, ◌≤◌, ◌<◌}
 use native.Mathlib.Omega.{arith}
 use mathlib.Core.Path.{◌≡◌, ap, ◌∙◌}
-use mathlib.Core.List.{List, [], ◌∷◌, ◌++◌, append-nil, append_assoc}
-use lib.ListN.{length, take, drop, set, replicate, drop_of_length-le, replicate-append-replicate}
+use mathlib.Core.List.{List, [], ◌∷◌, ◌++◌, append_assoc}
+use lib.ListN.{length, take, set, replicate, replicate-append-replicate}
 use Rattle.meaning.specs.Words.{segments, first_data}
 use Rattle.meaning.specs.Kinds.{empty_status, end_status}
 use Rattle.meaning.specs.Requests.{entry_of, empty_entry, flat, render, fresh_words}
 use Rattle.walks.proofs.Words.{take_zeros}
-
-pub all_cleared : (d : List ℕ) (i : ℕ) → i ≤ length d → length d ≤ i → replicate i 0 ++ drop i d ≡ replicate (length d) 0
-all_cleared d i l h =
-    let e : i ≡ length d = omega arith in
-    rw (drop_of_length-le d h, e) (append-nil (replicate (length d) 0))
 
 -- one word set among zeros
 set_zeros : (k m : ℕ) (x : ℕ) → set (replicate (k + suc m) 0) k x ≡ replicate k 0 ++ x ∷ replicate m 0

@@ -1,5 +1,7 @@
 // Delete, abandon, protect, unprotect, rename and close, of an entry whose place is known: `at` is the place of its first word in the
 // directory.
+#![tactic(auto, unfolding(meaning::specs::Answers::write))]
+
 ghost use Rattle.std.specs.Prelude.{◌≡◌, [], ◌∷◌, ◌+◌, ◌-◌, ◌≤◌, ◌<◌, length, get_or};
 ghost use Rattle.meaning.specs.Kinds.{permanent_status};
 ghost use Rattle.meaning.specs.Words.{status_word, name_word, name2_word, extension_word, length_word, channel_word};

@@ -1,8 +1,9 @@
 -- Enter and a request record on a sound directory, test by test: each refusal where the tests before it have passed, and what is done where
 -- all have. Each is read off the definition with the tests' answers. And a fault refuses whatever is asked.
-use Prim.Native.Nat.{ℕ, zero, suc}
+use Prim.Native.Nat.{ℕ, zero, suc, ◌<◌}
 use mathlib.Core.Path.{◌≡◌, refl, sym}
 use mathlib.Core.Bool.{Bool, true, false}
+use mathlib.Core.Logic.{⊎_elim}
 use mathlib.Core.List.{List}
 use mathlib.Core.Option.{Option, none, some}
 use lib.IntN.{ℤ}
@@ -18,6 +19,12 @@ use Rattle.meaning.specs.Answers.{Outcome, refuse, success, passed, unless, on_r
 use Rattle.meaning.specs.Requests.{legal, good_channel, word_of, success_with, lookup, delete, restate, protect, unprotect, abandon, rename, over_protected, close}
 use Rattle.meaning.specs.Enter.{Size, size_of, good_size, enter}
 use Rattle.meaning.specs.Batch.{serve_by, serve}
+use Rattle.std.proofs.Common.{Some, None}
+use Rattle.std.specs.Option.{is_some}
+use Rattle.segment.specs.Finder.{Found}
+use Rattle.segment.specs.declared.finder.Place.{Place}
+use Rattle.files.specs.Unprotected.{name_refusal}
+use Rattle.files.proofs.Tested as names
 use Rattle.enter.specs.Entering.{entering}
 use Rattle.engine.specs.Named.{entering_named}
 
@@ -47,13 +54,17 @@ pub record Passed (q : Call) : Type 0 where
   pub dated : good_date q.date ≡ true
 
 module _ (q : Call) where
-  pub name_wrong : legal q.name ≡ false → outcome q ≡ refuse 7 q.d
+  name_wrong : legal q.name ≡ false → outcome q ≡ refuse 7 q.d
   unfolding enter
   name_wrong e = rw (q.sound, e)
 
-  pub name-spared : legal q.name ≡ true → spared q.name ≡ true → outcome q ≡ refuse 19 q.d
+  name-spared : legal q.name ≡ true → spared q.name ≡ true → outcome q ≡ refuse 19 q.d
   unfolding enter
   name-spared l e = rw (q.sound, l, e)
+
+  -- a name that does not pass its tests
+  pub name-bad : (k : ℕ) → (k ≡ name_refusal q.name) × (0 < k) → outcome q ≡ refuse k q.d
+  name-bad k p = ⊎_elim (λ e. rw e.0 (name_wrong e.1)) (λ e. rw e.0 (name-spared e.1 e.2)) (names.name-bad k q.name p)
 
   pub channel_wrong : Named q → good_channel q.job q.channel ≡ false → outcome q ≡ refuse 8 q.d
   unfolding enter
@@ -76,6 +87,11 @@ module _ (q : Call) where
       → outcome q ≡ entering_named q.d q.name (size_of q.size) (word_of q.job q.channel) q.date
   unfolding enter entering_named entering
   let_in p e = rw (q.sound, p.named.lawful, p.named.plain, p.channelled, p.sized, p.dated, e)
+
+-- something was found at a place
+pub some_place : (f : Found) → is_some f ≡ true → (p : Place) × (f ≡ Some p)
+some_place None e = absurd cc
+some_place (Some p) e = (p, refl)
 
 -- a protected file of the name refuses it; else what is left is the room
 pub name-protected : (d : List ℕ) (name : Name) (size : Size) (x date : ℕ) → over_protected d name ≡ true

@@ -5,32 +5,18 @@
 ghost use Rattle.std.specs.Prelude.{◌≡◌};
 ghost use Rattle.meaning.specs.Sound.{fault};
 ghost use Rattle.meaning.specs.Answers.{Meets};
+ghost use Rattle.meaning.specs.Told.{told};
 ghost use Rattle.meaning.specs.Enter.{enter};
 ghost use Rattle.meaning.specs.Batch.{serve};
-ghost use Rattle.choice.specs.Asks.{size_by};
-ghost use Rattle.engine.specs.Named.{entering_named};
 
-use channels::{abandon_sound, close_sound, find_old, is_channel};
-use choice::size::{Asked, is_good_size, size_of};
+use channels::{abandon_sound, channel_word, close_sound, find_old};
+use choice::size::size_of;
 use dates::is_good_date;
 use enter::enter_file;
-use files::{delete_sound, is_legal, lookup_sound, rename_sound, restate_sound};
+use files::{check_name, delete_sound, lookup_sound, rename_sound, restate_sound};
 use find::find_entry;
 use find::found::is_protected;
-use meaning::{Answer, Key, Name, Op, PERMANENT, PROTECTED, Request, is_spared, refused};
-use segment::finder::Found;
-
-// Enter, once nothing but a protected file of its name, or want of room, can refuse it.
-fn enter_named(d: &mut [u16], v: usize, name: Name, asked: Asked, channel: u16, date: u16) -> Answer
-    requires { fault v d.old ≡ 0 }
-    ensures { Meets result d.new (entering_named d.old name (size_by asked) channel date) }
-{
-    let old = find_old(d, name);
-    if is_protected(old) {
-        return refused(20);
-    }
-    enter_file(d, v, name, asked, channel, date)
-}
+use meaning::{Answer, Granted, Key, Name, Op, PERMANENT, PROTECTED, Refusal, Request, refused};
 
 // A size is -1 for the longest, 0 for RT-11's default, or 1 to 65,535 blocks.
 pub fn enter_sound(
@@ -41,42 +27,33 @@ pub fn enter_sound(
     job: u16,
     channel: u16,
     date: u16,
-) -> Answer
+) -> Result<Granted, Refusal>
     requires { fault v d.old ≡ 0 }
-    ensures { Meets result d.new (enter v d.old name size job channel date) }
+    ensures { Meets (told result) d.new (enter v d.old name size job channel date) }
 {
-    if !is_legal(name) {
-        return refused(7);
-    }
-    if is_spared(name) {
-        return refused(19);
-    }
-    if !is_channel(job, channel) {
-        return refused(8);
-    }
-    let asked = size_of(size);
-    if !is_good_size(asked) {
-        return refused(9);
-    }
+    check_name(name)?;
+    let word = channel_word(job, channel)?;
+    let asked = size_of(size).ok_or(Refusal::WrongSizeOrDate)?;
     if !is_good_date(date) {
-        return refused(9);
+        return Err(Refusal::WrongSizeOrDate);
     }
-    let word = job * 256 + channel;
-    let found = find_entry(d, Key::Open(word));
-    match found {
-        Found::At(_) => refused(10),
-        Found::Nothing => enter_named(d, v, name, asked, word, date),
+    if find_entry(d, Key::Open(word)).is_some() {
+        return Err(Refusal::ChannelInUse);
     }
+    let old = find_old(d, name);
+    if is_protected(old) {
+        return Err(Refusal::ProtectedFile);
+    }
+    enter_file(d, v, name, asked, word, date)
 }
 
 // A request record of any kind.
-pub fn serve_sound(d: &mut [u16], v: usize, request: Request) -> Answer
+pub fn serve_sound(d: &mut [u16], v: usize, request: Request) -> Result<Granted, Refusal>
     requires { fault v d.old ≡ 0 }
-    ensures { Meets result d.new (serve v d.old request) }
+    ensures { Meets (told result) d.new (serve v d.old request) }
 {
-    let op = request.op;
     let name = request.name;
-    match op {
+    match request.op {
         Op::Lookup => lookup_sound(d, v, name),
         Op::Enter => enter_sound(
             d,
@@ -104,5 +81,5 @@ pub fn serve_known(d: &mut [u16], v: usize, number: u16, request: Request) -> An
     if number != 0 {
         return refused(number);
     }
-    serve_sound(d, v, request)
+    Answer::from(serve_sound(d, v, request))
 }

@@ -54,9 +54,6 @@ same-position : (t : List ℕ) (w : ℕ) (a : Area) → entered_at t a ≡ enter
 unfolding entered_at split_at
 same-position t w a = refl
 
-place_at : (p : AreaPlace) (a : Area) (w : ℕ) → p ≡ place_of_area w a → p.at ≡ 512 * (p.seg - 1) + 5 + p.before * w
-place_at p a w e = rw e
-
 -- the tidied directory can be followed
 pub tidied-chained : (v : ℕ) (d : List ℕ) → fault v d ≡ 0 → Chained (tidied d (chain d))
 tidied-chained v d h = (tidied-kept d (fault-chained v d h)).chained
@@ -133,10 +130,3 @@ module _ (v : ℕ) (d : List ℕ) (h : fault v d ≡ 0) (n : ℕ) where
   first_small p k =
       let x = k.stands in
       omega (arith, ends p.seg x.low x.high, x.ends)
-
-  -- the slot stands behind its segment's start
-  pub at_after : (p : AreaPlace) → Fitted (At p) t n → 512 * (p.seg - 1) ≤ p.at
-  at_after p k =
-      let b = chosen-area (slot_words t) (first_fit n (eligibles (areas t (chain t)))) p k.is in
-      let q : p.at ≡ 512 * (p.seg - 1) + 5 + p.before * slot_words t = place_at p b.0 (slot_words t) b.2 in
-      omega arith

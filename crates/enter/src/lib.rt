@@ -7,13 +7,14 @@ ghost use Rattle.meaning.specs.Words.{chain};
 ghost use Rattle.meaning.specs.Sound.{fault};
 ghost use Rattle.meaning.specs.Enter.{tidied};
 ghost use Rattle.meaning.specs.Answers.{Meets};
+ghost use Rattle.meaning.specs.Told.{told};
 ghost use Rattle.choice.specs.Asks.{size_by};
 ghost use Rattle.enter.specs.Entering.{any_untidy, Fits, placed_in, entering};
 
-use choice::choose::{Chosen, first_fit};
+use choice::choose::first_fit;
 use choice::size::{Asked, at_least, wanted_of};
 use insert::place::{Spot, enter_area};
-use meaning::{Answer, Name, refused, succeeded};
+use meaning::{Granted, Name, Refusal};
 use render::Tentative;
 use survey::areas::survey_areas;
 use tidy::tidy::tidy_all;
@@ -23,30 +24,19 @@ fn tidy_if(d: &mut [u16], v: usize, untidy: bool)
     requires { (fault v d.old ≡ 0) × (untidy ≡ any_untidy d.old) }
     ensures { d.new ≡ tidied d.old (chain d.old) }
 {
-    if !untidy {
-        return;
+    if untidy {
+        tidy_all(d);
     }
-    tidy_all(d);
 }
 
 // The directory tidied, and the new entry put into the first area that is long enough. It is known that there is one.
-fn place_file(
-    d: &mut [u16],
-    v: usize,
-    untidy: bool,
-    blocks: u16,
-    name: Name,
-    channel: u16,
-    date: u16,
-) -> Answer
-    requires { (fault v d.old ≡ 0) × (untidy ≡ any_untidy d.old) × Fits d.old blocks }
-    ensures { Meets result d.new (placed_in d.old name blocks channel date) }
+fn place_file(d: &mut [u16], v: usize, untidy: bool, new: Tentative) -> Granted
+    requires { (fault v d.old ≡ 0) × (untidy ≡ any_untidy d.old) × Fits d.old new.length }
+    ensures { Meets (told (Ok result)) d.new (placed_in d.old new.name new.length new.channel new.date) }
 {
     tidy_if(d, v, untidy);
-    let chosen = first_fit(d, blocks as usize);
-    // This is never so: that `Fits` rules it out is proved.
-    let Chosen::At(area) = chosen else {
-        return refused(12);
+    let Some(area) = first_fit(d, new.length as usize) else {
+        unreachable!()
     };
     let spot = Spot {
         seg: area.seg,
@@ -54,14 +44,13 @@ fn place_file(
         word: area.at - 512 * (area.seg - 1),
         cost: area.cost,
     };
-    let new = Tentative {
-        name,
-        length: blocks,
-        channel,
-        date,
-    };
     let position = enter_area(d, spot, new);
-    succeeded(area.first as u16, blocks, date, position)
+    Granted {
+        first: area.first as u16,
+        length: new.length,
+        date: new.date,
+        position,
+    }
 }
 
 // Enter, once nothing but want of room can refuse it.
@@ -72,18 +61,24 @@ pub fn enter_file(
     asked: Asked,
     channel: u16,
     date: u16,
-) -> Answer
+) -> Result<Granted, Refusal>
     requires { fault v d.old ≡ 0 }
-    ensures { Meets result d.new (entering d.old name (size_by asked) channel date) }
+    ensures { Meets (told result) d.new (entering d.old name (size_by asked) channel date) }
 {
     let found = survey_areas(d, at_least(asked));
     let areas = found.areas;
     if !areas.long {
-        return refused(11);
+        return Err(Refusal::NoLongArea);
     }
     if !areas.eligible {
-        return refused(12);
+        return Err(Refusal::NoRoom);
     }
-    let blocks = wanted_of(asked, areas.longest, areas.second);
-    place_file(d, v, found.untidy, blocks as u16, name, channel, date)
+    let length = wanted_of(asked, areas.longest, areas.second);
+    let new = Tentative {
+        name,
+        length,
+        channel,
+        date,
+    };
+    Ok(place_file(d, v, found.untidy, new))
 }

@@ -1,15 +1,14 @@
 -- What the finder promises: the first row of the directory that is looked for, as a place; and what requests make of it.
-use Rattle.std.specs.Prelude.{ℕ, ◌≤◌, ◌≡◌, Bool, false, List, length, eqb}
+use Rattle.std.specs.Prelude.{ℕ, ◌≤◌, ◌≡◌, Bool, false, List, length, eqb, Some, None}
 use Rattle.meaning.specs.Kinds.{protected_status}
 use Rattle.meaning.specs.Words.{slot_words, rows}
 use Rattle.meaning.specs.declared.Answer.{Answer}
+use Rattle.meaning.specs.declared.Granted.{Granted}
 use Rattle.meaning.specs.Answers.{Outcome, granted, on_row, find, write}
 use Rattle.meaning.specs.Requests.{success_with, restating}
-use Rattle.segment.specs.Finder.{found_of, Inside}
+use Rattle.segment.specs.Finder.{Found, found_of, Inside}
 use Rattle.meaning.specs.declared.Key.{Key}
 use Rattle.meaning.specs.Keys.{holds}
-use Rattle.segment.specs.declared.finder.Found.{Found}
-use Rattle.segment.specs.declared.finder.Found.TheVariants.{At, Nothing}
 use Rattle.segment.specs.declared.finder.Place.{Place}
 
 -- the answer r for the directory d; and where a place is found, the words of its slot lie in the directory
@@ -19,14 +18,21 @@ pub record FoundEntry (r : Found) (d : List ℕ) (key : Key) : Type 0 where
 
 -- a protected file was found
 abbrev pub protected_at : Found → Bool
-protected_at (At p) = eqb p.status protected_status
-protected_at Nothing = false
+protected_at (Some p) = eqb p.status protected_status
+protected_at None = false
 
 -- the numbers of a place that an answer tells are words
 pub record FitsWords (p : Place) : Type 0 where
   pub first : p.first ≤ 65535
   pub seg : p.seg ≤ 65535
   pub slot : p.slot ≤ 65535
+
+-- the entry at a place, of n blocks; or of as many as before
+abbrev pub entry_with : Place → ℕ → Granted
+entry_with p n = record { first = p.first; length = n; date = p.date; position = record { segment = p.seg; slot = p.slot } }
+
+abbrev pub entry_at : Place → Granted
+entry_at p = entry_with p p.length
 
 -- the answer of a success with the entry at a place, of n blocks afterwards; or of as many as before
 abbrev pub answer_with : Place → ℕ → Answer

@@ -3,11 +3,11 @@
 -- half or after k - h of the second. Assumes nothing.
 use Prim.Native.Nat.{ℕ, zero, suc, ◌+◌, ◌*◌, ◌-◌, ◌/◌, ◌≤◌, ◌<◌}
 use mathlib.Core.Path.{◌≡◌, sym, ap, ◌∙◌}
-use mathlib.Core.List.{List, [], ◌∷◌, append-nil}
+use mathlib.Core.List.{List, [], ◌∷◌}
 use native.Mathlib.Omega.{arith}
 use native.Mathlib.Nat.{add-mul, suc-mul, mul-le-mul_right, div-mul-le_self}
-use lib.ListN.{length, get_or, take, drop, set, replicate, length-take, length-drop}
-use lib.Seq.{paste, take-length, drop-drop, length-take-le}
+use lib.ListN.{length, get_or, take, drop, set, length-take, length-drop}
+use lib.Seq.{drop-drop}
 use borrow.Author.Tests.{lt-ltb, le-ltb}
 use Rattle.meaning.specs.Words.{Entry, blocks, chunks, slots, upto, total, link_of, first_of, slot_count}
 use Rattle.insert.specs.declared.place.Spot.{Spot}
@@ -137,13 +137,6 @@ unfolding total
 total-take zero es = omega arith
 total-take (suc n) [] = omega arith
 total-take (suc n) (e ∷ es) = omega (arith, total-take n es)
-
--- the old header, copied over zeros and linked to the next segment
-pub linked-header : (g o : List ℕ) (next : ℕ) → length g ≡ 512 → o ≡ paste (replicate 5 0) 0 (take 5 g) (length (take 5 g))
-    → set o 1 next ≡ set (take 5 g) 1 next
-linked-header g o next n e =
-    let l : length (take 5 g) ≡ 5 = length-take-le 5 g (omega arith) in
-    rw (e, take-length (take 5 g), l) (ap (λ (r : List ℕ). set r 1 next) (append-nil (take 5 g)))
 
 module _ {g : List ℕ} {new : Entry} {p : Spot} {h : ℕ} (f : Half g new p h) where
   -- the first half, as slots, and the rest

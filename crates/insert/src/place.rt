@@ -60,13 +60,14 @@ fn old_segment(segment: &[u16], kept: usize, next: u16, spot: Spot, new: &[u16])
 {
     let stop = 5 + kept * new.len();
     let mut header = [0u16; 5];
-    copy_words(&segment[..5], &mut header, 0);
+    header.copy_from_slice(&segment[..5]);
     header[1] = next;
     let slots = &segment[5..stop];
     if spot.before < kept {
-        return render::inserted_segment(&header, slots, spot.word - 5, spot.cost, new);
+        render::inserted_segment(&header, slots, spot.word - 5, spot.cost, new)
+    } else {
+        render::plain_segment(&header, slots)
     }
-    render::plain_segment(&header, slots)
 }
 
 // The new segment of a split: the rest of the entries, with the old link. The new entry goes here if its area is among the rest.
@@ -90,9 +91,10 @@ fn fresh_segment(
     let header = [total, segment[1], 0, extra, first as u16];
     let slots = &segment[start..stop];
     if spot.before < kept {
-        return render::plain_segment(&header, slots);
+        render::plain_segment(&header, slots)
+    } else {
+        render::inserted_segment(&header, slots, spot.word - start, spot.cost, new)
     }
-    render::inserted_segment(&header, slots, spot.word - start, spot.cost, new)
 }
 
 // Where the new entry is after so many entries of a segment: in the last of the slots that it costs.
@@ -112,9 +114,10 @@ fn half_position(spot: Spot, kept: usize, next: usize) -> Position
     ensures { result ≡ half_at spot kept next }
 {
     if spot.before < kept {
-        return new_after(spot.seg, spot.before, spot.cost);
+        new_after(spot.seg, spot.before, spot.cost)
+    } else {
+        new_after(next, spot.before - kept, spot.cost)
     }
-    new_after(next, spot.before - kept, spot.cost)
 }
 
 // The segment of the area split in two, and the new entry inserted into the half that has the area. Answers where it is.

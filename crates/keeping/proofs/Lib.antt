@@ -1,6 +1,6 @@
-pub mod Codes
+pub mod Parts
 pub mod Listing
+pub mod Gathering
 pub mod Sorting
 pub mod Alike
 pub mod Taking
-pub mod Gathering

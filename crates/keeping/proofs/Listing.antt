@@ -1,85 +1,126 @@
--- The files of a segment's slots, listed. Left slots are ahead, from word p on, the first at block b: the files that the table has, and those that
--- are ahead, are together all. A slot that stops the walk has none ahead; any other adds its own, or nothing, to the table. Assumes nothing.
+-- The files of a segment's entries, listed. The files that the table has, and those among the entries ahead, are together all. A slot that can't be
+-- read has no file behind it; any other entry adds its own, or nothing, to the table. Assumes nothing.
 use Prim.Native.Nat.{ℕ, zero, suc, ◌+◌, ◌*◌, ◌-◌, ◌≤◌, ◌<◌}
-use mathlib.Core.Path.{◌≡◌, refl, sym, ◌∙◌}
+use mathlib.Core.Path.{◌≡◌, refl, sym, ap, ◌∙◌}
 use mathlib.Core.Bool.{Bool, true, false, cond, ◌||◌}
 use mathlib.Core.List.{List, [], ◌∷◌, ◌++◌, map, map-append, append_assoc, append-nil}
+use native.Mathlib.Nat.{suc-mul}
 use native.Mathlib.Omega.{arith}
-use lib.ListN.{length, get_or, take, drop, length-set}
-use lib.Seq.{drop-drop, take-suc-set}
-use Rattle.meaning.specs.Kinds.{kind_of, is_end, is_unknown, is_permanent}
-use Rattle.meaning.specs.Words.{Entry, kind, blocks, slot_count, chunks}
+use lib.ListN.{length, get_or, take, drop, set, length-set}
+use lib.Seq.{drop-drop, take-take, take-suc-set, get_or-take}
+use Rattle.meaning.specs.Kinds.{is_end, is_unknown, is_permanent}
+use Rattle.meaning.specs.Words.{Entry, kind, blocks, segment, slot_count, chunks, slots, upto}
 use Rattle.walks.specs.Lists.{All}
 use Rattle.walks.proofs.Alls.{all_append}
-use Rattle.walks.proofs.Words.{word, word0}
-use Rattle.walks.proofs.Slots.{mul_less, chunks_step, most-slots}
-use Rattle.repaired.specs.Kept.{KeptFile, legible, kept_at, kept_from}
-use Rattle.keeping.specs.Tables.{file_of, Within, PutIf, Listed}
-use Rattle.keeping.proofs.Codes.{number_of, file-there, there-within}
+use Rattle.walks.proofs.Words.{base, header, drop-take}
+use Rattle.walks.proofs.Slots.{mul_less, most-slots}
+use Rattle.segment.proofs.Ahead.{first-room}
+use Rattle.repaired.specs.Kept.{KeptFile, legible, kept_at, kept_from, kept_in}
+use Rattle.keeping.specs.declared.File.{File}
+use Rattle.keeping.specs.Tables.{file_of, Within, Listed}
 
--- the files among left slots from word p on, the first of them at block b
-abbrev pub files_ahead : List ℕ → ℕ → ℕ → ℕ → ℕ → List KeptFile
-files_ahead d w left p b = kept_from b (legible (chunks left w (drop p d)))
+-- slots that lie in a part are slots of the whole
+chunks_cut : (n w m : ℕ) (l : List ℕ) → n * w ≤ m → chunks n w (take m l) ≡ chunks n w l
+unfolding chunks
+chunks_cut zero w m l h = refl
+chunks_cut (suc n) w m l h =
+    let k = suc-mul n w in
+    rw (take-take w m l (omega arith), drop-take w m l)
+    (ap {B = List Entry} (λ r. take w l ∷ r) (chunks_cut n w (m - w) (drop w l) (omega arith)))
 
-abbrev stops_at : List ℕ → ℕ → Bool
-stops_at d p = is_end (kind_of (get_or d p 0)) || is_unknown (kind_of (get_or d p 0))
+-- the slots of segment s, in the directory
+slots-there : (d : List ℕ) (s w : ℕ) → slots w (segment d s) ≡ chunks (slot_count w) w (drop (base s + 5) d)
+unfolding slots segment
+slots-there d s w =
+    let r = first-room w in
+    let cut = chunks_cut (slot_count w) w 507 (drop (base s + 5) d) (omega arith) in
+    let five : drop 5 (take 512 (drop (base s) d)) ≡ take 507 (drop (base s + 5) d) =
+    drop-take 5 512 (drop (base s) d) ∙ ap (take 507) (drop-drop 5 (base s) d) in
+    rw (five, cut)
 
-files-over : (d : List ℕ) (w left p b : ℕ) → left ≤ 0 → files_ahead d w left p b ≡ []
-unfolding chunks legible kept_from
-files-over d w zero p b h = refl
-files-over d w (suc left) p b h = absurd (omega arith)
+-- what can be read of the entries is what can be read of the slots
+by_end : (x y : Bool) (e : Entry) (es : List Entry) → legible (upto es) ≡ legible es
+    → x ≡ is_end (kind e) → y ≡ is_unknown (kind e)
+    → legible (cond x [] (e ∷ upto es)) ≡ cond (x || y) [] (e ∷ legible es)
+unfolding legible
+by_end true y e es i p q = refl
+by_end false y e es i p q = rw (← p, ← q, i) refl
 
-by_stop : (x : Bool) (b : ℕ) (e : Entry) (es : List Entry)
-    → kept_from b (cond x [] (e ∷ es))
-    ≡ cond x [] (cond (is_permanent (kind e)) (kept_at b e ∷ kept_from (b + blocks e) es) (kept_from (b + blocks e) es))
-unfolding kept_from
-by_stop true b e es = refl
-by_stop false b e es = refl
+legible-upto : (es : List Entry) → legible (upto es) ≡ legible es
+unfolding legible upto
+legible-upto [] = refl
+legible-upto (e ∷ es) = by_end (is_end (kind e)) (is_unknown (kind e)) e es (legible-upto es) refl refl
 
-module _ (d : List ℕ) (w left p b : ℕ) (h : 0 < left) (wide : 7 ≤ w) where
-  abbrev slot : Entry
-  slot = take w (drop p d)
+-- the first of the entries among left slots from word p on, and those behind it
+record Stepped (d : List ℕ) (w left p : ℕ) (e : Entry) (es : List Entry) : Type 0 where
+  pub some : 0 < left
+  pub here : e ≡ take w (drop p d)
+  pub behind : es ≡ upto (chunks (left - 1) w (drop (p + w) d))
+  pub entry : is_end (kind e) ≡ false
 
-  abbrev next : List KeptFile
-  next = files_ahead d w (left - 1) (p + w) (b + get_or d (p + 4) 0)
+stepped : (d : List ℕ) (w left p : ℕ) (e : Entry) (es : List Entry) → upto (chunks left w (drop p d)) ≡ e ∷ es → Stepped d w left p e es
+unfolding chunks upto
+stepped d w zero p e es h = absurd (cc)
+stepped d w (suc n) p e es h = go (is_end (kind (take w (drop p d)))) refl h
+  where
+    go : (x : Bool) → is_end (kind (take w (drop p d))) ≡ x
+        → cond x [] (take w (drop p d) ∷ upto (chunks n w (drop w (drop p d)))) ≡ e ∷ es → Stepped d w (suc n) p e es
+    go true i k = absurd (cc)
+    go false i k =
+        let a : take w (drop p d) ≡ e = cc in
+        let b : upto (chunks n w (drop w (drop p d))) ≡ es = cc in
+        let m : suc n - 1 ≡ n = omega arith in
+        record { some = omega arith; here = sym a; behind = sym b ∙ rw (m, drop-drop w p d) refl; entry = rw a at i }
 
-  files_step : files_ahead d w left p b ≡ cond (stops_at d p) [] (cond (is_permanent (kind_of (get_or d p 0))) (kept_at b slot ∷ next) next)
-  unfolding legible
-  files_step =
+-- the file that is listed of an entry, by the first seven words of its slot
+module _ (d : List ℕ) (b p w : ℕ) (wide : 7 ≤ w) where
+  file-there : file_of d (record { first = b; at = p }) ≡ kept_at b (take w (drop p d))
+  file-there =
       rw (
-        chunks_step left w (drop p d) h,
-        drop-drop w p d,
-        by_stop (is_end (kind slot) || is_unknown (kind slot)) b slot (legible (chunks (left - 1) w (drop (p + w) d))),
-        word0 d p w (omega arith),
-        word d p w 4 (omega arith),
+        get_or-take 7 (drop p d) 0 0 (omega arith),
+        get_or-take 7 (drop p d) 1 0 (omega arith),
+        get_or-take 7 (drop p d) 2 0 (omega arith),
+        get_or-take 7 (drop p d) 3 0 (omega arith),
+        get_or-take 7 (drop p d) 4 0 (omega arith),
+        get_or-take 7 (drop p d) 6 0 (omega arith),
+        get_or-take w (drop p d) 0 0 (omega arith),
+        get_or-take w (drop p d) 1 0 (omega arith),
+        get_or-take w (drop p d) 2 0 (omega arith),
+        get_or-take w (drop p d) 3 0 (omega arith),
+        get_or-take w (drop p d) 4 0 (omega arith),
+        get_or-take w (drop p d) 6 0 (omega arith),
       )
 
--- the loop's invariant: n numbers stand in the table
-pub record Listing (d : List ℕ) (w : ℕ) (files : List KeptFile) (room most left p b : ℕ) (table : List ℕ) (n : ℕ) : Type 0 where
-  pub inside : p + left * w ≤ length d
-  pub few : n + left ≤ most
-  pub slots : left ≤ 72
+-- the loop's invariant: the entries es are ahead, the first at word p of the directory and its first block b; n files are listed
+pub record Listing (d : List ℕ) (w s room : ℕ) (es : List Entry) (p b : ℕ) (table : List File) (n : ℕ) : Type 0 where
+  pub left : ℕ
+  pub ahead : es ≡ upto (chunks left w (drop p d))
+  pub inside : p + left * w ≤ 512 * s
+  pub few : n + left ≤ 72
   pub small : b + left * 65535 ≤ 73 * 65535
   pub size : length table ≡ room
   pub within : All (Within d) (take n table)
-  pub lists : map (file_of d) (take n table) ++ files_ahead d w left p b ≡ files
+  pub lists : map (file_of d) (take n table) ++ kept_from b (legible es) ≡ kept_in w (segment d s)
 
-pub listing : (d : List ℕ) (w p b : ℕ) (table : List ℕ) (n : ℕ) → 7 ≤ w → p + slot_count w * w ≤ length d → b ≤ 65535
-    → All (Within d) (take n table)
-    → Listing d w (map (file_of d) (take n table) ++ files_ahead d w (slot_count w) p b) (length table) (n + 72) (slot_count w) p b table n
-listing d w p b table n wide i s a = record {
-  inside = i;
-  few = omega (arith, most-slots w wide);
-  slots = most-slots w wide;
-  small = omega (arith, most-slots w wide);
-  size = refl;
-  within = a;
-  lists = refl;
-}
+pub listing : (d : List ℕ) (w s : ℕ) (table : List File) → 7 ≤ w → 1 ≤ s → get_or d (base s + 4) 0 ≤ 65535
+    → Listing d w s (length table) (upto (slots w (segment d s))) (base s + 5) (get_or d (base s + 4) 0) table 0
+unfolding kept_in
+listing d w s table wide low h =
+    let m = most-slots w wide in
+    record {
+      left = slot_count w;
+      ahead = ap upto (slots-there d s w);
+      inside = omega (arith, first-room w);
+      few = omega arith;
+      small = omega arith;
+      size = refl;
+      within = tt;
+      lists = rw (legible-upto (slots w (segment d s)), header d s 4 (omega arith)) refl;
+    }
 
-module _ {d : List ℕ} {w : ℕ} {files : List KeptFile} {room most left p b : ℕ} {table : List ℕ} {n : ℕ}
-    (l : Listing d w files room most left p b table n) where
-  listed : files_ahead d w left p b ≡ [] → Listed d files room most table n
+module _ {d : List ℕ} {w s room : ℕ} {es : List Entry} {p b : ℕ} {table : List File} {n : ℕ}
+    (l : Listing d w s room es p b table n) where
+  listed : kept_from b (legible es) ≡ [] → Listed d (kept_in w (segment d s)) room 72 table n
   listed e = record {
     lists = sym (append-nil (map (file_of d) (take n table))) ∙ (rw e at l.lists);
     within = l.within;
@@ -87,62 +128,66 @@ module _ {d : List ℕ} {w : ℕ} {files : List KeptFile} {room most left p b : 
     few = omega (arith, l.few);
   }
 
-  pub list_over : left ≤ 0 → Listed d files room most table n
-  list_over h = listed (files-over d w left p b h)
+  pub list_over : es ≡ [] → Listed d (kept_in w (segment d s)) room 72 table n
+  unfolding legible kept_from
+  list_over e = listed (rw e refl)
 
-  module _ (h : 0 < left) (wide : 7 ≤ w) where
-    -- the slot at hand lies in the directory, and those after it
-    pub slot-inside : p + w + (left - 1) * w ≤ length d
-    slot-inside = omega (arith, l.inside, mul_less left w h)
+  module _ (e : Entry) (others : List Entry) (next : es ≡ e ∷ others) where
+    step : Stepped d w l.left p e others
+    step = stepped d w l.left p e others (sym l.ahead ∙ next)
 
-    pub list-stop : stops_at d p ≡ true → Listed d files room most table n
-    list-stop e = listed (files_step d w left p b h wide ∙ rw e)
+    -- there is room for its file, and it lies in the segment
+    pub room_here : n < 72
+    room_here = omega (arith, l.few, step.some)
 
-    module _ (e : stops_at d p ≡ false) (whole : length d ≤ 15872) (most-fits : most ≤ room) (word_fits : get_or d (p + 4) 0 ≤ 65535) where
-      abbrev here : KeptFile
-      here = kept_at b (take w (drop p d))
+    pub entry_inside : p + w + (l.left - 1) * w ≤ 512 * s
+    entry_inside = omega (arith, l.inside, mul_less l.left w step.some)
 
-      abbrev ahead : List KeptFile
-      ahead = files_ahead d w (left - 1) (p + w) (b + get_or d (p + 4) 0)
+    pub block_small : b ≤ 73 * 65535
+    block_small = omega (arith, l.small)
 
-      -- what is left, by whether the slot is a file
-      ahead-is : map (file_of d) (take n table) ++ cond (is_permanent (kind_of (get_or d p 0))) (here ∷ ahead) ahead ≡ files
-      ahead-is =
-          let step : files_ahead d w left p b ≡ cond (is_permanent (kind_of (get_or d p 0))) (here ∷ ahead) ahead =
-          files_step d w left p b h wide ∙ rw e in
-          rw (← step) l.lists
+    pub list-stop : is_unknown (kind e) ≡ true → Listed d (kept_in w (segment d s)) room 72 table n
+    unfolding legible kept_from
+    list-stop u = listed (rw (next, step.entry, u) refl)
 
-      more : (x : Bool) (after : List ℕ) (r : ℕ) → map (file_of d) (take n table) ++ cond x (here ∷ ahead) ahead ≡ files
-          → PutIf x table n (number_of b p) after r
-          → Listing d w files room most (left - 1) (p + w) (b + get_or d (p + 4) 0) after r
-      more false after r i put = rw (put.numbers, put.count) (record {
-        inside = slot-inside;
+    module _ (known : is_unknown (kind e) ≡ false) (small : blocks e ≤ 65535) (wide : 7 ≤ w) where
+      abbrev rest : List KeptFile
+      rest = kept_from (b + blocks e) (legible others)
+
+      ahead-is : (x : Bool) → is_permanent (kind e) ≡ x → kept_from b (legible es) ≡ cond x (kept_at b e ∷ rest) rest
+      unfolding legible kept_from
+      ahead-is x h = rw (next, step.entry, known, h) refl
+
+      -- no file
+      pub list_past : is_permanent (kind e) ≡ false → Listing d w s room others (p + w) (b + blocks e) table n
+      list_past h = record {
+        left = l.left - 1;
+        ahead = step.behind;
+        inside = entry_inside;
         few = omega (arith, l.few);
-        slots = omega (arith, l.slots);
-        small = omega (arith, l.small, mul_less left 65535 h);
+        small = omega (arith, l.small, mul_less l.left 65535 step.some);
         size = l.size;
         within = l.within;
-        lists = i;
-      })
-      more true after r i put =
-          let one : n + 1 ≡ suc n = omega arith in
-          let room-here : n < length table = omega (arith, l.few, l.size) in
-          let inside-here : p + w ≤ length d = omega (arith, slot-inside) in
-          let low : p < 16384 = omega arith in
-          let taken = take-suc-set table n (number_of b p) room-here in
-          rw (put.numbers, put.count, one) (record {
-            inside = slot-inside;
-            few = omega (arith, l.few);
-            slots = omega (arith, l.slots);
-            small = omega (arith, l.small, mul_less left 65535 h);
-            size = length-set table n (number_of b p) ∙ l.size;
-            within = rw taken (all_append (Within d) (take n table) (number_of b p ∷ []) l.within (there-within b p low d w wide inside-here, tt));
-            lists =
-                (rw (taken, map-append (file_of d) (take n table) (number_of b p ∷ []), file-there b p low d w wide)
-                (append_assoc (map (file_of d) (take n table)) (here ∷ []) ahead))
-                ∙ i;
-          })
+        lists = rw (← ahead-is false h) l.lists;
+      }
 
-      pub list_on : {after : List ℕ} {r : ℕ} → PutIf (is_permanent (kind_of (get_or d p 0))) table n (number_of b p) after r
-          → Listing d w files room most (left - 1) (p + w) (b + get_or d (p + 4) 0) after r
-      list_on {after} {r} put = more (is_permanent (kind_of (get_or d p 0))) after r ahead-is put
+      pub list_on : is_permanent (kind e) ≡ true → room ≡ length table → 72 ≤ room → 512 * s ≤ length d
+          → Listing d w s room others (p + w) (b + blocks e) (set table n (record { first = b; at = p })) (n + 1)
+      list_on h size much whole =
+          let f : File = record { first = b; at = p } in
+          let one : n + 1 ≡ suc n = omega arith in
+          let taken = take-suc-set table n f (omega (arith, room_here)) in
+          let before : map (file_of d) (take n table) ++ kept_at b e ∷ rest ≡ kept_in w (segment d s) = rw (← ahead-is true h) l.lists in
+          let there : file_of d f ≡ kept_at b e = file-there d b p w wide ∙ ap (kept_at b) (sym step.here) in
+          rw one (record {
+            left = l.left - 1;
+            ahead = step.behind;
+            inside = entry_inside;
+            few = omega (arith, l.few, step.some);
+            small = omega (arith, l.small, mul_less l.left 65535 step.some);
+            size = length-set table n f ∙ l.size;
+            within = rw taken (all_append (Within d) (take n table) (f ∷ []) l.within (omega (arith, entry_inside), tt));
+            lists =
+                rw (taken, map-append (file_of d) (take n table) (f ∷ []), there)
+                (append_assoc (map (file_of d) (take n table)) (kept_at b e ∷ []) rest ∙ before);
+          })

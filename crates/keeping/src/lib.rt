@@ -1,9 +1,29 @@
 // What test and tool of a repair read: the files that a damaged directory is to keep, listed in a table; their first blocks, sorted; and whether
 // two lists hold the same files. Nothing here writes a word of a directory.
-// A file stands in a table as one number: its first block times 16,384, and the place of its entry's first word in the directory, which has no more
-// than 15,872 words. So a table of numbers is enough, and what a file keeps is read where it stands.
 #![tactic(auto)]
+
+ghost use Rattle.std.specs.Prelude.{◌≡◌, take, drop};
+ghost use Rattle.keeping.specs.Tables.{Within};
 
 pub mod files;
 pub mod firsts;
 pub mod matching;
+
+use segment::entry::Entry;
+
+// A file that a directory lists: its first block, and where its entry's first word stands in the directory. What else a file keeps is read there.
+#[derive(Clone, Copy)]
+pub struct File {
+    pub first: usize,
+    pub at: usize,
+}
+
+impl File {
+    // The seven words of its entry that have a meaning.
+    pub fn entry<'a>(&self, d: &'a [u16]) -> Entry<'a>
+        requires { Within d.now self.now }
+        ensures { result.words.now ≡ take 7 (drop self.now.at d.now) }
+    {
+        Entry::new(&d[self.at..self.at + 7])
+    }
+}

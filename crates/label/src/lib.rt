@@ -2,9 +2,11 @@
 #![tactic(auto)]
 
 ghost use Rattle.std.specs.Prelude.{◌≡◌, ◌+◌, ◌≤◌, length};
-ghost use Rattle.label.specs.Labels.{twelve_at, are_label_bytes, without_label, label_of, put_at, labelled_with, write_number, written};
+ghost use Rattle.label.specs.Labels.{twelve_at, are_label_bytes, without_label, label_of, labelled_with, write_number, written};
 
 // What block 1 says: number 0, or 25; whether it has the system's mark; and name and owner, which are blanks where it says none.
+// A number and a flag, and no Option in a Result: docs/MANUAL.md answers by these four fields, and the theorems `writer_laws` and
+// `reader_laws` of proofs/Laws.antt speak of them.
 #[derive(Clone, Copy)]
 pub struct Label {
     pub number: u16,
@@ -20,6 +22,10 @@ const OWNER: usize = 0o744;
 
 const MARK: usize = 0o760;
 
+const SYSTEM_MARK: [u8; 12] = *b"DECRT11A    ";
+
+// The answer where there is no label to give.
+#[tactic(auto, unfolding(crate::specs::Labels::without_label))]
 fn no_label(number: u16) -> Label
     ensures { result ≡ without_label number }
 {
@@ -35,19 +41,10 @@ fn no_label(number: u16) -> Label
 fn are_label_bytes(bytes: &[u8]) -> bool
     ensures { result ≡ are_label_bytes bytes.now }
 {
-    let mut i = 0;
-    while i < bytes.len() {
-        if bytes[i] < 32 {
-            return false;
-        }
-        if 126 < bytes[i] {
-            return false;
-        }
-        i += 1;
-    }
-    true
+    bytes.iter().all(|b| (32..=126).contains(b))
 }
 
+// Block and place, and no slice of the part: that would only write `at..at + 12` at both calls.
 fn twelve_at(block: &[u8], at: usize) -> [u8; 12]
     requires { at + 12 ≤ length block.now }
     ensures { result ≡ twelve_at at block.now }
@@ -64,7 +61,7 @@ pub fn read_label(block: &[u8]) -> Label
     if block.len() != 512 {
         return no_label(25);
     }
-    if !names::same_bytes(&block[MARK..MARK + 12], b"DECRT11A    ") {
+    if !names::same_bytes(&block[MARK..MARK + 12], &SYSTEM_MARK) {
         return no_label(0);
     }
     if !are_label_bytes(&block[NAME..NAME + 24]) {
@@ -78,35 +75,23 @@ pub fn read_label(block: &[u8]) -> Label
     }
 }
 
-// Bytes put at a place; every other byte stays.
-fn put_at(block: &mut [u8], at: usize, text: &[u8])
-    requires { at + length text.now ≤ length block.old }
-    ensures { block.new ≡ put_at at text.now block.old }
-{
-    block[at..at + text.len()].copy_from_slice(text);
-}
-
-// A name, an owner and the mark put in their places.
+// A name, an owner and the mark put in their places; every other byte stays.
 fn put_label(block: &mut [u8], name: [u8; 12], owner: [u8; 12])
     requires { length block.old ≡ 512 }
     ensures { block.new ≡ labelled_with name owner block.old }
 {
-    put_at(block, NAME, &name);
-    put_at(block, OWNER, &owner);
-    put_at(block, MARK, b"DECRT11A    ");
+    block[NAME..NAME + 12].copy_from_slice(&name);
+    block[OWNER..OWNER + 12].copy_from_slice(&owner);
+    block[MARK..MARK + 12].copy_from_slice(&SYSTEM_MARK);
 }
 
-// Writes a label: 0, or 25 and nothing changed.
+// Writes a label: 0, or 25 and nothing changed. A number and no Result: docs/MANUAL.md answers by it, and the theorem `writer_laws` of
+// proofs/Laws.antt speaks of it.
+#[tactic(auto, unfolding(crate::specs::Labels::is_writable, crate::specs::Labels::is_block, crate::specs::Labels::is_label, crate::specs::Labels::write_number, crate::specs::Labels::written))]
 pub fn write_label(block: &mut [u8], name: [u8; 12], owner: [u8; 12]) -> u16
     ensures { (result ≡ write_number block.old name owner) × (block.new ≡ written block.old name owner) }
 {
-    if block.len() != 512 {
-        return 25;
-    }
-    if !are_label_bytes(&name) {
-        return 25;
-    }
-    if !are_label_bytes(&owner) {
+    if block.len() != 512 || !are_label_bytes(&name) || !are_label_bytes(&owner) {
         return 25;
     }
     put_label(block, name, owner);

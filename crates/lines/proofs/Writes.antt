@@ -7,8 +7,8 @@ use mathlib.Core.List.{List, [], ◌∷◌, ◌++◌, append_assoc, append-nil}
 use native.Mathlib.Omega.{arith}
 use native.Mathlib.Nat.{add-zero}
 use native.Mathlib.Numerals.{add-one}
-use lib.ListN.{length, get_or, take, drop, set, length-append, length-set, take-append-drop}
-use lib.Seq.{set_split, take-suc, take-length}
+use lib.ListN.{length, take, drop, set, length-append, length-set, take-append-drop}
+use lib.Seq.{set_split}
 use Rattle.walks.proofs.Words.{both_put}
 use Rattle.lines.specs.Wrote.{Wrote}
 
@@ -54,19 +54,3 @@ two b p x y h =
     let e : p + 2 ≡ p + 1 + 1 = omega arith in
     let n : length (set b p x) ≡ length b = length-set b p x in
     rw e (both (one b p x (omega arith)) (one (set b p x) (p + 1) y (omega arith)))
-
--- a text that is copied: nothing of it, one byte more, and all of it
-pub copy-none : (b t : List ℕ) (p : ℕ) → p ≤ length b → Wrote b p (take 0 t) b (p + 0)
-copy-none b t p h = rw (add-zero p) (none b p h)
-
-pub copy_more : (b m t : List ℕ) (p i : ℕ) → Wrote b p (take i t) m (p + i) → i < length t → p + length t ≤ length b
-    → Wrote b p (take (i + 1) t) (set m (p + i) (get_or t i 0)) (p + (i + 1))
-copy_more b m t p i u h r =
-    let e : p + (i + 1) ≡ p + i + 1 = omega arith in
-    rw (add-one i, take-suc t i 0 h, ← add-one i, e) (both u (one m (p + i) (get_or t i 0) (omega arith)))
-
-pub copy-all : (b m t : List ℕ) (p i : ℕ) → Wrote b p (take i t) m (p + i) → i ≤ length t → length t ≤ i
-    → Wrote b p t m (p + i)
-copy-all b m t p i u h g =
-    let e : i ≡ length t = omega arith in
-    rw e (rw (e, take-length t) at u)

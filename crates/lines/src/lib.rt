@@ -16,12 +16,9 @@ pub fn put_bytes(out: &mut [u8], at: usize, text: &[u8]) -> usize
     requires { at + length text.now ≤ length out.old }
     ensures { Wrote out.old at text.now out.new result }
 {
-    let mut i = 0;
-    while i < text.len() {
-        out[at + i] = text[i];
-        i += 1;
-    }
-    at + i
+    let end = at + text.len();
+    out[at..end].copy_from_slice(text);
+    end
 }
 
 // A number in decimal: the digits before its last one are those of its tenth, so that they come out first.
@@ -102,35 +99,20 @@ fn letter(out: &mut [u8], at: usize, kind: Kind) -> usize
     requires { at + 1 ≤ length out.old }
     ensures { WroteAtMost 1 out.old at (letter kind) out.new result }
 {
-    match kind {
-        Kind::Tentative => {
-            out[at] = b'T';
-            at + 1
-        }
-        Kind::Empty => {
-            out[at] = b'E';
-            at + 1
-        }
-        Kind::Permanent => {
-            out[at] = b'P';
-            at + 1
-        }
-        Kind::End => at,
-        Kind::Unknown => at,
-    }
+    out[at] = match kind {
+        Kind::Tentative => b'T',
+        Kind::Empty => b'E',
+        Kind::Permanent => b'P',
+        Kind::End | Kind::Unknown => return at,
+    };
+    at + 1
 }
 
 // Whether a kind is that of an empty entry.
 fn is_empty(kind: Kind) -> bool
     ensures { result ≡ is_empty kind }
 {
-    match kind {
-        Kind::Tentative => false,
-        Kind::Empty => true,
-        Kind::Permanent => false,
-        Kind::End => false,
-        Kind::Unknown => false,
-    }
+    matches!(kind, Kind::Empty)
 }
 
 // A row's beginning: the letter of the kind, and the name. That of an empty entry is ten dots, since its name words may be any.
@@ -150,10 +132,7 @@ fn row_start(out: &mut [u8], at: usize, kind: Kind, a: u16, b: u16, c: u16) -> u
 fn row_date(kind: Kind, date: u16) -> u16
     ensures { result ≡ row_date kind date }
 {
-    if is_empty(kind) {
-        return 0;
-    }
-    date
+    if is_empty(kind) { 0 } else { date }
 }
 
 // A row's end: the date, and the line feed.

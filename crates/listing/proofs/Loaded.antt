@@ -4,12 +4,29 @@ use Prim.Native.Nat.{ℕ, zero, suc, ◌+◌, ◌*◌, ◌-◌, ◌/◌, ◌≤�
 use mathlib.Core.Path.{◌≡◌, refl, sym, ap, ◌∙◌}
 use mathlib.Core.List.{List, [], ◌∷◌}
 use native.Mathlib.Omega.{arith}
-use native.Mathlib.Nat.{zero-add}
+use native.Mathlib.Nat.{add-zero, zero-add}
+use native.Mathlib.Numerals.{add-one}
 use lib.ListN.{length, get_or, take, drop, set, length-drop}
-use lib.Seq.{get_or-drop}
+use lib.Seq.{get_or-drop, take-suc, take-length}
 use Rattle.meaning.specs.Listing.{word_at, words_in}
 use Rattle.lines.specs.Wrote.{Wrote}
-use Rattle.lines.proofs.Writes.{copy-none, copy_more, copy-all}
+use Rattle.lines.proofs.Writes.{none, one, both}
+
+-- a text that is copied: nothing of it, one byte more, and all of it
+copy-none : (b t : List ℕ) (p : ℕ) → p ≤ length b → Wrote b p (take 0 t) b (p + 0)
+copy-none b t p h = rw (add-zero p) (none b p h)
+
+copy_more : (b m t : List ℕ) (p i : ℕ) → Wrote b p (take i t) m (p + i) → i < length t → p + length t ≤ length b
+    → Wrote b p (take (i + 1) t) (set m (p + i) (get_or t i 0)) (p + (i + 1))
+copy_more b m t p i u h r =
+    let e : p + (i + 1) ≡ p + i + 1 = omega arith in
+    rw (add-one i, take-suc t i 0 h, ← add-one i, e) (both u (one m (p + i) (get_or t i 0) (omega arith)))
+
+copy-all : (b m t : List ℕ) (p i : ℕ) → Wrote b p (take i t) m (p + i) → i ≤ length t → length t ≤ i
+    → Wrote b p t m (p + i)
+copy-all b m t p i u h g =
+    let e : i ≡ length t = omega arith in
+    rw e (rw (e, take-length t) at u)
 
 words_long : (bs : List ℕ) → length (words_in bs) ≡ length bs / 2
 unfolding words_in

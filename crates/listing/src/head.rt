@@ -4,16 +4,16 @@ ghost use Rattle.meaning.specs.Listing.{head_bytes};
 ghost use Rattle.listing.specs.Bounds.{good_head_of, WordRead, VolumeRead};
 
 // The word at byte k, low byte first.
-pub(crate) fn word_at(file: &[u8], k: usize) -> usize
+pub(crate) fn word_at(file: &[u8], k: usize) -> u16
     requires { k + 1 < length file.now }
     ensures { WordRead file.now k result }
 {
-    file[k] as usize + 256 * (file[k + 1] as usize)
+    u16::from_le_bytes([file[k], file[k + 1]])
 }
 
 // Whether a file is a good head file of a version, whose directory begins at the byte `first`: its length, its mark, its version, and whole
 // words for the directory.
-pub(crate) fn good_head(file: &[u8], version: usize, first: usize) -> bool
+pub(crate) fn good_head(file: &[u8], version: u16, first: usize) -> bool
     requires { (head_bytes ≤ first) × (first ≤ 519) }
     ensures { result ≡ good_head_of version first file.now }
 {
@@ -37,5 +37,5 @@ pub(crate) fn volume_in(file: &[u8]) -> usize
     requires { head_bytes ≤ length file.now }
     ensures { VolumeRead file.now result }
 {
-    word_at(file, 5)
+    word_at(file, 5) as usize
 }

@@ -11,10 +11,8 @@ pub(crate) fn load_words(file: &[u8], first: usize, words: &mut [u16]) -> usize
     ensures { Wrote words.old 0 (words_in (drop first file.now)) words.new result }
 {
     let count = (file.len() - first) / 2;
-    let mut i: usize = 0;
-    while i < count {
-        words[i] = head::word_at(file, first + 2 * i) as u16;
-        i += 1;
+    for i in 0..count {
+        words[i] = head::word_at(file, first + 2 * i);
     }
     count
 }

@@ -1,76 +1,42 @@
 // Type 10 of a case file, behind its memory and its stream: the lengths of the pieces, and whether the input has ended. Each piece is fed as soon as its
 // length is read, so that no count of pieces needs room.
-ghost use Rattle.std.specs.Prelude.{◌≡◌, ◌≤◌, true, length};
-ghost use Rattle.cases.specs.Runs.{Follows};
+ghost use Rattle.std.specs.Prelude.{◌≤◌, length, IfOk, OnOk};
+ghost use Rattle.cases.specs.Runs.{Further};
 
-use cases::input::{long_at, read_bytes, word_at};
-use cases::output::{check_of, write_line};
-use cases::state::{State, refused};
-use cases::{Console, Why};
+use cases::input::{CaseFile, long_at, word_at};
+use cases::output::{Line, check_of};
+use cases::{Stop, Why};
 use loadsteps::{Answer, Reader};
 use pieces::{answer_of, begin, feed, finish};
+use std::io::Read;
 
-// The length of a piece, and the run behind it.
-#[derive(Clone, Copy)]
-struct Length {
-    state: State,
-    count: usize,
-}
-
-// The reader of the pieces so far, and where the run stands.
-#[derive(Clone, Copy)]
-struct Fed {
-    state: State,
-    reader: Reader,
-}
-
-// The next length. More bytes than the stream has left end the run.
-fn read_length(rt: &impl Console, state: State, left: usize) -> Length
-    ensures { (result.count ≤ left) × Follows state result.state }
+// The next length, which is no more than the stream has left.
+fn read_length<R: Read>(file: &mut CaseFile<R>, left: usize) -> Result<usize, Stop>
+    ensures in_bounds { IfOk result (λ n. n ≤ left) }
+    ensures further { OnOk result (Further R.remaining file.old file.new) }
 {
     let mut number = [0u8; 4];
-    let next = read_bytes(rt, &mut number, state, false);
-    if !next.going {
-        return Length {
-            state: next,
-            count: 0,
-        };
-    }
-    let count = long_at(&number, 0);
-    let n = count as usize;
-    if n > left {
-        return Length {
-            state: refused(rt, Why::Piece, count, next, 4),
-            count: 0,
-        };
-    }
-    Length {
-        state: next,
-        count: n,
-    }
+    file.read(&mut number)?;
+    file.at_most(long_at(&number, 0), left, Why::Piece, 4)
 }
 
 // So many pieces, from the stream's first byte on.
-fn feed_pieces(rt: &impl Console, words: &mut [u16], stream: &[u8], start: State, count: u16) -> Fed
-    requires { start.going ≡ true }
-    ensures { Follows start result.state }
+fn feed_pieces<R: Read>(
+    file: &mut CaseFile<R>,
+    words: &mut [u16],
+    stream: &[u8],
+    count: u16,
+) -> Result<Reader, Stop>
+    ensures { OnOk result (Further R.remaining file.old file.new) }
 {
-    let mut state = start;
     let mut reader = begin();
-    let mut at: usize = 0;
-    let mut left = count;
-    while left > 0 {
-        let length = read_length(rt, state, stream.len() - at);
-        state = length.state;
-        if !state.going {
-            return Fed { state, reader };
-        }
-        let n = length.count;
-        reader = feed(reader, &stream[at..at + n], words);
-        at += n;
-        left -= 1;
+    let mut rest = stream;
+    for _ in 0..count {
+        let n = read_length(file, rest.len())?;
+        reader = feed(reader, &rest[..n], words);
+        rest = &rest[n..];
     }
-    Fed { state, reader }
+    Ok(reader)
 }
 
 // The numbers of an answer, in the order of its line, and the check behind them. What an answer doesn't have is 0.
@@ -82,51 +48,23 @@ fn numbers_of(answer: Answer, check: u64) -> [u64; 6] {
     }
 }
 
-// The reader, once it is known whether the input has ended.
-fn told(reader: Reader, is_ended: bool) -> Reader {
-    if is_ended {
-        return finish(reader);
-    }
-    reader
-}
-
-// The last word says whether the input has ended.
-fn show_pieces(rt: &impl Console, words: &[u16], reader: Reader, state: State) -> State
-    ensures { Follows state result }
-{
-    let mut word = [0u8; 2];
-    let next = read_bytes(rt, &mut word, state, false);
-    if !next.going {
-        return next;
-    }
-    let last = told(reader, word_at(&word, 0) != 0);
-    write_line(
-        rt,
-        next,
-        b"pieces",
-        &numbers_of(answer_of(last), check_of(words)),
-    )
-}
-
-// How many pieces there are, and their lengths. Bytes behind the last piece are not fed.
-pub(crate) fn take_pieces(
-    rt: &impl Console,
+// How many pieces there are, and their lengths; bytes behind the last piece are not fed. The last word says whether the input has ended.
+pub(crate) fn take_pieces<R: Read>(
+    rt: &impl Print,
+    file: &mut CaseFile<R>,
     words: &mut [u16],
     stream: &[u8],
-    state: State,
-) -> State
-    ensures { Follows state result }
+) -> Result<(), Stop>
+    ensures { OnOk result (Further R.remaining file.old file.new) }
 {
     let mut word = [0u8; 2];
-    let next = read_bytes(rt, &mut word, state, false);
-    if !next.going {
-        return next;
+    file.read(&mut word)?;
+    let mut reader = feed_pieces(file, words, stream, word_at(&word, 0))?;
+    file.read(&mut word)?;
+    if word_at(&word, 0) != 0 {
+        reader = finish(reader);
     }
-    let fed = feed_pieces(rt, words, stream, next, word_at(&word, 0));
-    let last = fed.state;
-    if !last.going {
-        return last;
-    }
-    let reader = fed.reader;
-    show_pieces(rt, words, reader, last)
+    let numbers = numbers_of(answer_of(reader), check_of(words));
+    println!(rt; "{}", Line("pieces", &numbers))?;
+    Ok(())
 }

@@ -18,7 +18,7 @@ use Rattle.loads.specs.declared.Loaded.{Loaded}
 use Rattle.loads.specs.declared.Part.{Part}
 use Rattle.loads.specs.declared.Part.TheVariants.{Gap, Block, End, Refused}
 use Rattle.loads.proofs.Bytes.{decide}
-use Rattle.loads.proofs.Parts.{first-zero, first-not, right, counted}
+use Rattle.loads.proofs.Parts.{first_zero, first_not, right, counted}
 
 -- more bytes behind a stream leave those that it has
 pair_ahead : (s rest : List ℕ) (k : ℕ) → k + 2 ≤ length s → pair_at (s ++ rest) k ≡ pair_at s k
@@ -64,10 +64,10 @@ first_decides a a' b b' h f g =
     decide a 0
     (λ e.
     let k : a' ≡ a = f (λ j. omega arith) in
-    rw (first-zero a' b' (k ∙ e), first-zero a b e) (g e (λ j. h (first-zero a b e ∙ j))))
+    rw (first_zero a' b' (k ∙ e), first_zero a b e) (g e (λ j. h (first_zero a b e ∙ j))))
     (λ e.
-    let k : a' ≡ a = f (λ j. h (first-not a b e ∙ j)) in
-    rw (k, first-not a b' e, first-not a b e))
+    let k : a' ≡ a = f (λ j. h (first_not a b e ∙ j)) in
+    rw (k, first_not a b' e, first_not a b e))
 
 -- so each test of a block, and all of them
 start-ahead : (s rest : List ℕ) → 1 ≤ length s → (start_number s ≡ 30 → ⊥) → start_number (s ++ rest) ≡ start_number s

@@ -10,9 +10,12 @@ use mathlib.Core.Bool.{true, false, cond}
 use mathlib.Core.List.{List, [], ◌∷◌}
 use borrow.Author.Tests.{eq-eqb, ne_eqb, eqb-true, eqb-false}
 use lib.ListN.{length, get_or, set, take, drop, length-set, drop_of_length-le}
+use Rattle.std.proofs.lemmas.List.{get_or-take, get_or-drop}
 use lib.Seq.{get_or-set_same, get_or-set_other, set_out, take-length, drop-cons}
 use lib.Dec.{eqb}
 use Rattle.bools.proofs.Bools.{either_side}
+use Rattle.std.specs.List.{fold}
+use Rattle.std.specs.Simd.{first_chunks}
 use Rattle.loads.specs.Memory.{limit, byte_at, with_byte, put_byte, puts, bytes_at}
 use Rattle.loads.specs.Blocks.{byte_sum}
 use Rattle.loads.specs.Laws.{Words}
@@ -148,40 +151,53 @@ put_two m a b c h e k =
     rw (eq-eqb (a % 2) 0 e, ne_eqb ((a + 1) % 2) 0 (λ f. omega arith), n, get_or-set_same m (a / 2) w 0 (omega arith), v)
     (sym (set_twice m (a / 2) w (b + 256 * c)))
 
--- bytes that are put from an even address on, two at a turn: what is left gives what all do
+-- bytes that are put two at a turn, i turns of them: what is left gives what all do
 pub record Filling (a : ℕ) (ds m₀ m : List ℕ) (i : ℕ) : Type 0 where
-  pub within : i ≤ length ds
-  pub even : (a + i) % 2 ≡ 0
   pub long : length m ≡ length m₀
-  pub left : puts (a + i) (drop i ds) m ≡ puts a ds m₀
+  pub left : puts (a + 2 * i) (drop (2 * i) ds) m ≡ puts a ds m₀
 
-pub fill_begins : (a : ℕ) (ds m : List ℕ) → a % 2 ≡ 0 → Filling a ds m m 0
-fill_begins a ds m e = record { within = omega arith; even = omega arith; long = refl; left = rw (add-zero a) }
-
-pub fill_pair : {a i : ℕ} {ds m₀ m : List ℕ} (m' : List ℕ) → Filling a ds m₀ m i → i + 1 < length ds
-    → m' ≡ put_byte (a + i + 1) (get_or ds (i + 1) 0) (put_byte (a + i) (get_or ds i 0) m) → Filling a ds m₀ m' (i + 2)
+fill_pair : {a i : ℕ} {ds m₀ m : List ℕ} (m' : List ℕ) → Filling a ds m₀ m i → 2 * i + 1 < length ds
+    → m' ≡ put_byte (a + 2 * i + 1) (get_or ds (2 * i + 1) 0) (put_byte (a + 2 * i) (get_or ds (2 * i) 0) m) → Filling a ds m₀ m' (i + 1)
 fill_pair {a} {i} {ds} {m₀} {m} m' c h e =
-    let one = put_next a i ds m (puts a ds m₀) (omega arith) c.left in
-    let two = put_next a (i + 1) ds (put_byte (a + i) (get_or ds i 0) m) (puts a ds m₀) h one in
-    let n : a + i + 1 ≡ a + (i + 1) = omega arith in
-    let k : i + 2 ≡ i + 1 + 1 = omega arith in
+    let one = put_next a (2 * i) ds m (puts a ds m₀) (omega arith) c.left in
+    let two = put_next a (2 * i + 1) ds (put_byte (a + 2 * i) (get_or ds (2 * i) 0) m) (puts a ds m₀) h one in
+    let n : a + 2 * i + 1 ≡ a + (2 * i + 1) = omega arith in
+    let k : 2 * (i + 1) ≡ 2 * i + 1 + 1 = omega arith in
     record {
-      within = omega arith;
-      even = omega (arith, c.even);
       long = rw (e, length-put, length-put) c.long;
       left = rw (e, n, k) two;
     }
 
-pub fill_byte : {a i : ℕ} {ds m₀ m : List ℕ} (m' : List ℕ) → Filling a ds m₀ m i → i < length ds → length ds ≤ i + 1
-    → m' ≡ put_byte (a + i) (get_or ds i 0) m → (m' ≡ puts a ds m₀) × (length m' ≡ length m₀)
+pub fill_byte : {a i : ℕ} {ds m₀ m : List ℕ} (m' : List ℕ) → Filling a ds m₀ m i → 2 * i < length ds → length ds ≤ 2 * i + 1
+    → m' ≡ put_byte (a + 2 * i) (get_or ds (2 * i) 0) m → (m' ≡ puts a ds m₀) × (length m' ≡ length m₀)
 fill_byte {a} {i} {ds} {m₀} {m} m' c h k e =
-    let one = put_next a i ds m (puts a ds m₀) h c.left in (
-      e ∙ put_last a (i + 1) ds (put_byte (a + i) (get_or ds i 0) m) (puts a ds m₀) k one,
+    let one = put_next a (2 * i) ds m (puts a ds m₀) h c.left in (
+      e ∙ put_last a (2 * i + 1) ds (put_byte (a + 2 * i) (get_or ds (2 * i) 0) m) (puts a ds m₀) k one,
       rw (e, length-put) c.long,
     )
 
-pub fill-ends : {a i : ℕ} {ds m₀ m : List ℕ} → Filling a ds m₀ m i → length ds ≤ i → m ≡ puts a ds m₀
-fill-ends {a} {i} {ds} {m₀} {m} c h = put_last a i ds m (puts a ds m₀) h c.left
+pub fill_ends : {a i : ℕ} {ds m₀ m : List ℕ} → Filling a ds m₀ m i → length ds ≤ 2 * i → m ≡ puts a ds m₀
+fill_ends {a} {i} {ds} {m₀} {m} c h = put_last a (2 * i) ds m (puts a ds m₀) h c.left
+
+-- the bytes of a pair
+pair_get : (k i j : ℕ) (ds : List ℕ) → i < k → j < 2 → get_or (get_or (first_chunks 2 k ds) i []) j 0 ≡ get_or ds (2 * i + j) 0
+pair_get zero i j ds h e = absurd (omega arith)
+pair_get (suc k) zero j ds h e = let n : 2 * 0 + j ≡ j = omega arith in rw n (get_or-take 2 ds j 0 e)
+pair_get (suc k) (suc i) j ds h e =
+    let n : 2 * suc i + j ≡ 2 + (2 * i + j) = omega arith in
+    pair_get k i j (drop 2 ds) (omega arith) e ∙ rw n (get_or-drop 2 ds (2 * i + j) 0)
+
+-- a turn puts a pair into one word
+pub fill_word : {a i : ℕ} {ds m₀ m : List ℕ} (w : ℕ) (p : List ℕ) → Filling a ds m₀ m i → a % 2 ≡ 0 → i < length ds / 2 → a + length ds ≤ 2 * length m₀
+    → get_or ds (2 * i) 0 < 256 → p ≡ get_or (first_chunks 2 (length ds / 2) ds) i [] → w ≡ get_or p 0 0 + get_or p 1 0 * 256
+    → Filling a ds m₀ (set m (a / 2 + i) w) (i + 1)
+fill_word {a} {i} {ds} {m₀} {m} w p c even h room small f e =
+    let low = pair_get (length ds / 2) i 0 ds h (omega arith) in
+    let high = pair_get (length ds / 2) i 1 ds h (omega arith) in
+    let is : w ≡ get_or ds (2 * i) 0 + 256 * get_or ds (2 * i + 1) 0 = e ∙ rw (f, low, high, add-zero (2 * i)) (omega arith) in
+    let place : a / 2 + i ≡ (a + 2 * i) / 2 = omega arith in
+    let two = put_two m (a + 2 * i) (get_or ds (2 * i) 0) (get_or ds (2 * i + 1) 0) small (omega arith) (omega (arith, c.long)) in
+    fill_pair (set m (a / 2 + i) w) c (omega arith) (rw (is, place) two)
 
 -- nothing to put, and a first byte by itself
 pub puts_none : (a : ℕ) (ds m : List ℕ) → length ds < 1 → m ≡ puts a ds m
@@ -197,16 +213,10 @@ puts_first a (d ∷ ds) m h =
     let e : length (d ∷ ds) - 1 ≡ length ds = omega arith in
     rw (e, take-length ds)
 
--- the sum of bytes modulo 256: what a turn has, with the sum of what is left, is the sum of all
-pub sum-next : (bs : List ℕ) (i n t : ℕ) → i < length bs → (n + byte_sum (drop i bs)) % 256 ≡ t
-    → ((n + get_or bs i 0) % 256 + byte_sum (drop (i + 1) bs)) % 256 ≡ t
+-- the sum of bytes modulo 256, reduced at each byte
+pub sum_folds : (bs : List ℕ) (n : ℕ) → n < 256 → fold (λ (k b : ℕ). (k + b) % 256) n bs ≡ (n + byte_sum bs) % 256
 unfolding byte_sum
-sum-next bs i n t h e =
-    let f = rw (drop-cons bs i 0 h) at e in
-    rw (add-one i) (omega arith)
-
-pub sum-last : (bs : List ℕ) (i n t : ℕ) → length bs ≤ i → n < 256 → (n + byte_sum (drop i bs)) % 256 ≡ t → n ≡ t
-unfolding byte_sum
-sum-last bs i n t h k e =
-    let f = rw (drop_of_length-le bs h) at e in
-    omega arith
+sum_folds [] n h = omega arith
+sum_folds (b ∷ bs) n h =
+    let e = sum_folds bs ((n + b) % 256) (omega arith) in
+    e ∙ omega arith

@@ -2,7 +2,7 @@
 -- room; and what a stream says is final (Ahead). Where the memory is not stored to, it is as it was by definition.
 use Prim.Native.Nat.{ℕ, zero, suc, ◌+◌, ◌≤◌}
 use native.Mathlib.Omega.{arith}
-use mathlib.Core.Path.{◌≡◌, refl, sym, ◌∙◌}
+use mathlib.Core.Path.{◌≡◌, refl, sym, ap, ◌∙◌}
 use mathlib.Core.Logic.{⊎_elim}
 use mathlib.Core.Bool.{Bool, true, false, cond}
 use mathlib.Core.List.{List, [], ◌∷◌, ◌++◌}
@@ -15,6 +15,7 @@ use Rattle.loads.specs.Blocks.{part_of, data_of}
 use Rattle.loads.specs.Reading.{goes_on, rest_of, stored_by, fill_from, load_answer, load_memory}
 use Rattle.loads.specs.Writing.{load_file, save_answer, save_output}
 use Rattle.loads.specs.Laws.{Words, ReadsBack, LoadLaws, SaveLaws}
+use Rattle.loads.specs.declared.Saved.{Saved}
 use Rattle.loads.specs.declared.Part.{Part}
 use Rattle.loads.specs.declared.Part.TheVariants.{Gap, Block, End, Refused}
 use Rattle.loads.proofs.Bytes.{decide, length-puts, puts-inside, puts-outside, limit-within}
@@ -129,3 +130,8 @@ load_laws s m =
           (λ e. rw (memory-accepted s m e) (fill-long (limit m) 0 s m))
           (λ h. rw (memory-refused s m h));
     }
+
+-- an answer by its fields
+pub by_fields : (r : Saved) (n c : ℕ) → (r.number ≡ n) × (r.count ≡ c) → r ≡ record { number = n; count = c }
+by_fields r n c e =
+    ap {B = Saved} (λ x. record { number = x; count = r.count }) e.0 ∙ ap {B = Saved} (λ x. record { number = n; count = x }) e.1

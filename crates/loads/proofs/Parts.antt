@@ -5,7 +5,7 @@ use native.Mathlib.Omega.{arith}
 use mathlib.Core.Path.{◌≡◌, refl, sym, ◌∙◌}
 use mathlib.Core.Bool.{Bool, true, false, cond, true≢false}
 use mathlib.Core.List.{List, [], ◌∷◌}
-use borrow.Author.Tests.{le-ltb, eq-eqb, ne_eqb, eqb-true, ltb-false}
+use borrow.Author.Tests.{lt-ltb, le-ltb, eq-eqb, ne_eqb, eqb-true, ltb-false}
 use lib.ListN.{length, get_or, take}
 use lib.Dec.{eqb, ltb}
 use Rattle.loads.specs.Blocks.{count_of, address_of, data_count, byte_sum, whole_block, is_short, start_number, count_number, is_end_block, is_outside}
@@ -32,13 +32,13 @@ both_zero a b e =
     refl e
 
 -- the first or, where it is 0, the second
-pub first-zero : (a b : ℕ) → a ≡ 0 → first_refusal a b ≡ b
+pub first_zero : (a b : ℕ) → a ≡ 0 → first_refusal a b ≡ b
 unfolding first_refusal
-first-zero a b e = rw (eq-eqb a 0 e)
+first_zero a b e = rw (eq-eqb a 0 e)
 
-pub first-not : (a b : ℕ) → (a ≡ 0 → ⊥) → first_refusal a b ≡ a
+pub first_not : (a b : ℕ) → (a ≡ 0 → ⊥) → first_refusal a b ≡ a
 unfolding first_refusal
-first-not a b h = rw (ne_eqb a 0 h)
+first_not a b h = rw (ne_eqb a 0 h)
 
 -- enough bytes are there
 enough : (n : ℕ) (s : List ℕ) → is_short n s ≡ false → n ≤ length s
@@ -118,16 +118,20 @@ number-right l s r =
     )
 
 -- the sum of a block, as code counts its bytes
-pub sum-bad : (s : List ℕ) (n k : ℕ) → n ≡ count_of s → n + 1 ≤ length s → k ≡ byte_sum (take (n + 1 - 0) s) % 256 → (k ≡ 0 → ⊥) → 31 ≡ sum_number s
+pub sum_bad : (s : List ℕ) (n k : ℕ) → n ≡ count_of s → n + 1 ≤ length s → k ≡ byte_sum (take (n + 1 - 0) s) % 256 → (k ≡ 0 → ⊥) → 31 ≡ sum_number s
 unfolding sum_number is_short whole_block
-sum-bad s n k e h f g =
+sum_bad s n k e h f g =
     let z : n + 1 - 0 ≡ count_of s + 1 = omega arith in
     let t : k ≡ byte_sum (take (count_of s + 1) s) % 256 = rw (← z) f in
     rw (le-ltb (length s) (count_of s + 1) (omega arith), ne_eqb _ 0 (rw t at g))
 
-pub sum-good : (s : List ℕ) (n k : ℕ) → n ≡ count_of s → n + 1 ≤ length s → k ≡ byte_sum (take (n + 1 - 0) s) % 256 → k ≡ 0 → 0 ≡ sum_number s
+pub sum_short : (s : List ℕ) → length s < count_of s + 1 → sum_number s ≡ 30
+unfolding sum_number is_short
+sum_short s h = rw (lt-ltb (length s) (count_of s + 1) h)
+
+pub sum_good : (s : List ℕ) (n k : ℕ) → n ≡ count_of s → n + 1 ≤ length s → k ≡ byte_sum (take (n + 1 - 0) s) % 256 → k ≡ 0 → 0 ≡ sum_number s
 unfolding sum_number is_short whole_block
-sum-good s n k e h f g =
+sum_good s n k e h f g =
     let z : n + 1 - 0 ≡ count_of s + 1 = omega arith in
     let t : k ≡ byte_sum (take (count_of s + 1) s) % 256 = rw (← z) f in
     rw (le-ltb (length s) (count_of s + 1) (omega arith), eq-eqb _ 0 (rw t at g))
@@ -138,12 +142,12 @@ unfolding part_of
 part_none l [] h = refl
 part_none l (b ∷ s) h = absurd (omega arith)
 
-pub part-gap : (l : ℕ) (s : List ℕ) → 0 < length s → get_or s 0 0 ≡ 0 → part_of l s ≡ Gap
+pub part_gap : (l : ℕ) (s : List ℕ) → 0 < length s → get_or s 0 0 ≡ 0 → part_of l s ≡ Gap
 unfolding part_of
-part-gap l [] h e = absurd (omega arith)
-part-gap l (b ∷ s) h e = rw (eq-eqb b 0 e)
+part_gap l [] h e = absurd (omega arith)
+part_gap l (b ∷ s) h e = rw (eq-eqb b 0 e)
 
-pub part-block : (l : ℕ) (s : List ℕ) → 0 < length s → (get_or s 0 0 ≡ 0 → ⊥) → part_of l s ≡ block_by (block_number l s) s
+pub part_block : (l : ℕ) (s : List ℕ) → 0 < length s → (get_or s 0 0 ≡ 0 → ⊥) → part_of l s ≡ block_by (block_number l s) s
 unfolding part_of
-part-block l [] h e = absurd (omega arith)
-part-block l (b ∷ s) h e = rw (ne_eqb b 0 e)
+part_block l [] h e = absurd (omega arith)
+part_block l (b ∷ s) h e = rw (ne_eqb b 0 e)

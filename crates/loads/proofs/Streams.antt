@@ -83,13 +83,11 @@ passes l (b ∷ s) h =
     ])
     h
 
--- the same of a part at a place of the stream, as each walk meets it
-pub passes_at : (l at : ℕ) (s : List ℕ) (p : Part) → at ≤ length s → p ≡ part_of l (drop at s) → goes_on p ≡ true
-    → at + (rest_of p + 1) ≤ length s
-passes_at l at s p h e g =
-    let k = passes l (drop at s) (ap goes_on (sym e) ∙ g) in
-    let r : rest_of p ≡ rest_of (part_of l (drop at s)) = ap rest_of e in
-    omega (arith, k, r, length-drop at s)
+-- the same of the part that a stream begins with, as each walk meets it
+pub passes_here : (l : ℕ) (s : List ℕ) (p : Part) → p ≡ part_of l s → goes_on p ≡ true → rest_of p + 1 ≤ length s
+passes_here l s p e h =
+    let r : rest_of p ≡ rest_of (part_of l s) = ap rest_of e in
+    omega (arith, r, passes l s (ap goes_on (sym e) ∙ h))
 
 -- where the answer is a success the stream is not at its end, and what is no gap is a right block
 pub accepted-long : (l : ℕ) (s : List ℕ) → (read_from l 0 s).number ≡ 0 → 0 < length s

@@ -14,7 +14,7 @@ use Rattle.loads.specs.Reading.{read_from, fill_from}
 use Rattle.loads.specs.Writing.{checksum, body, block, full_blocks, short_block, load_file}
 use Rattle.loads.specs.declared.Part.TheVariants.{Block, End}
 use Rattle.loads.proofs.Bytes.{length-bytes}
-use Rattle.loads.proofs.Parts.{Right, number-right, part-block}
+use Rattle.loads.proofs.Parts.{Right, number-right, part_block}
 use Rattle.loads.proofs.Streams.{reads_on, reads-last, fills-on, fills-last}
 
 -- lengths and sums
@@ -94,7 +94,7 @@ part_data l a ds rest h k =
     let s = block a ds ++ rest in
     let n = count-block a ds rest in
     let e = length-append (block a ds) rest in
-    part-block l s (omega (arith, e, length-block a ds)) (λ f. omega (arith, (starts a ds rest).0))
+    part_block l s (omega (arith, e, length-block a ds)) (λ f. omega (arith, (starts a ds rest).0))
     ∙ rw (
       number-right l s (block-right l a ds rest (λ j. k)),
       ne_eqb (count_of s) 6 (λ f. omega arith),
@@ -107,7 +107,7 @@ unfolding block_by right_block is_end_block
 part_end l t rest =
     let s = block t [] ++ rest in
     let e = length-append (block t []) rest in
-    part-block l s (omega (arith, e, length-block t [])) (λ f. omega (arith, (starts t [] rest).0))
+    part_block l s (omega (arith, e, length-block t [])) (λ f. omega (arith, (starts t [] rest).0))
     ∙ rw (
       number-right l s (block-right l t [] rest (λ j. absurd (omega arith))),
       eq-eqb (count_of s) 6 (count-block t [] rest),

@@ -1,4 +1,5 @@
 pub mod Memory
+pub mod Faults
 pub mod Bounds
 pub mod Blocks
 pub mod Reading

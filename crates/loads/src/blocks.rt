@@ -1,101 +1,94 @@
 // What a stream goes on with: the tests of a block, in the order of the bytes that show a fault. `rest` is the stream from a place on.
 ghost use Rattle.std.specs.Prelude.{◌≡◌, ◌+◌, ◌≤◌, length};
 ghost use Rattle.loads.specs.Blocks.{pair_at, count_of, start_number, count_number, address_number, sum_number, block_number, right_block, part_of};
-ghost use Rattle.loads.specs.Reading.{goes_on, rest_of};
+ghost use Rattle.loads.specs.Faults.{number_said};
 
-use crate::Part;
 use crate::memory::sum_of;
+use crate::{Fault, Part};
 
 // A 16-bit number, low byte first.
+#[tactic(auto, unfolding(crate::specs::Blocks::pair_at))]
 fn pair_at(rest: &[u8], at: usize) -> u16
     requires { at + 2 ≤ length rest.now }
     ensures { result ≡ pair_at rest.now at }
 {
-    rest[at] as u16 + 256 * (rest[at + 1] as u16)
+    u16::from_le_bytes([rest[at], rest[at + 1]])
 }
 
 // The bytes 1 and 0.
-fn start_number(rest: &[u8]) -> u16
+#[tactic(auto, unfolding(crate::specs::Blocks::start_number, crate::specs::Blocks::is_short))]
+fn check_start(rest: &[u8]) -> Result<(), Fault>
     requires { 1 ≤ length rest.now }
-    ensures { result ≡ start_number rest.now }
+    ensures { number_said result ≡ start_number rest.now }
 {
-    if rest[0] != 1 {
-        return 27;
+    match rest {
+        [1, 0, ..] => Ok(()),
+        [1] => Err(Fault::Short),
+        _ => Err(Fault::Start),
     }
-    if rest.len() < 2 {
-        return 30;
-    }
-    if rest[1] != 0 {
-        return 27;
-    }
-    0
 }
 
-fn count_number(rest: &[u8]) -> u16
-    ensures { result ≡ count_number rest.now }
+#[tactic(auto, unfolding(crate::specs::Blocks::count_number, crate::specs::Blocks::is_short, crate::specs::Blocks::count_of))]
+fn check_count(rest: &[u8]) -> Result<(), Fault>
+    ensures { number_said result ≡ count_number rest.now }
 {
     if rest.len() < 4 {
-        return 30;
+        return Err(Fault::Short);
     }
     if pair_at(rest, 2) < 6 {
-        return 28;
+        return Err(Fault::Count);
     }
-    0
+    Ok(())
 }
 
-// The sum of address and count is made in a usize, so that it is not reduced by 65,536.
-fn address_number(rest: &[u8], size: usize) -> u16
+// The sum of address and count is made in a usize, so that it is not reduced by 65,536. An end block's address may be any.
+#[tactic(auto, unfolding(crate::specs::Blocks::address_number, crate::specs::Blocks::is_short, crate::specs::Blocks::is_outside, crate::specs::Blocks::is_end_block, crate::specs::Blocks::count_of, crate::specs::Blocks::data_count, crate::specs::Blocks::address_of))]
+fn check_address(rest: &[u8], size: usize) -> Result<(), Fault>
     requires { (4 ≤ length rest.now) × (6 ≤ count_of rest.now) }
-    ensures { result ≡ address_number size rest.now }
+    ensures { number_said result ≡ address_number size rest.now }
 {
     if rest.len() < 6 {
-        return 30;
+        return Err(Fault::Short);
     }
     let count = pair_at(rest, 2);
     if count == 6 {
-        return 0;
+        return Ok(());
     }
     if size < pair_at(rest, 4) as usize + (count - 6) as usize {
-        return 29;
+        return Err(Fault::Outside);
     }
-    0
+    Ok(())
 }
 
 // The data and the checksum.
-fn sum_number(rest: &[u8]) -> u16
+#[tactic(auto, using(crate::proofs::Parts::sum_bad, crate::proofs::Parts::sum_good, crate::proofs::Parts::sum_short), unfolding(crate::specs::Blocks::count_of))]
+fn check_sum(rest: &[u8]) -> Result<(), Fault>
     requires { 4 ≤ length rest.now }
-    ensures { result ≡ sum_number rest.now }
+    ensures { number_said result ≡ sum_number rest.now }
 {
     let whole = pair_at(rest, 2) as usize + 1;
     if rest.len() < whole {
-        return 30;
+        return Err(Fault::Short);
     }
     if sum_of(&rest[0..whole]) != 0 {
-        return 31;
+        return Err(Fault::Checksum);
     }
-    0
+    Ok(())
 }
 
-fn block_number(rest: &[u8], size: usize) -> u16
+#[tactic(auto, using(crate::proofs::Parts::first_zero, crate::proofs::Parts::first_not, crate::proofs::Parts::counted), unfolding(crate::specs::Blocks::block_number))]
+fn check_block(rest: &[u8], size: usize) -> Result<(), Fault>
     requires { 1 ≤ length rest.now }
-    ensures { result ≡ block_number size rest.now }
+    ensures { number_said result ≡ block_number size rest.now }
 {
-    let start = start_number(rest);
-    if start != 0 {
-        return start;
-    }
-    let count = count_number(rest);
-    if count != 0 {
-        return count;
-    }
-    let address = address_number(rest, size);
-    if address != 0 {
-        return address;
-    }
-    sum_number(rest)
+    check_start(rest)?;
+    check_count(rest)?;
+    check_address(rest, size)?;
+    check_sum(rest)
 }
 
 // A block that is known to be right: the end block, or one with data.
+#[tactic(auto, unfolding(crate::specs::Blocks::right_block, crate::specs::Blocks::is_end_block, crate::specs::Blocks::count_of, crate::specs::Blocks::address_of, crate::specs::Blocks::data_count))]
 pub fn right_block(rest: &[u8]) -> Part
     requires { (6 ≤ length rest.now) × (6 ≤ count_of rest.now) }
     ensures { result ≡ right_block rest.now }
@@ -109,42 +102,16 @@ pub fn right_block(rest: &[u8]) -> Part
 }
 
 // What the stream goes on with, over a memory of so many bytes.
+#[tactic(auto, using(crate::proofs::Parts::right, crate::proofs::Parts::part_none, crate::proofs::Parts::part_gap, crate::proofs::Parts::part_block), unfolding(crate::specs::Blocks::block_by))]
 pub fn part_of(rest: &[u8], size: usize) -> Part
     ensures { result ≡ part_of size rest.now }
 {
-    if rest.len() < 1 {
-        return Part::Refused(30);
-    }
-    if rest[0] == 0 {
-        return Part::Gap;
-    }
-    let number = block_number(rest, size);
-    if number != 0 {
-        return Part::Refused(number);
-    }
-    right_block(rest)
-}
-
-// Whether the stream goes on after a part.
-pub fn goes_on(part: Part) -> bool
-    ensures { result ≡ goes_on part }
-{
-    match part {
-        Part::Gap => true,
-        Part::Block(_, _) => true,
-        Part::End(_) => false,
-        Part::Refused(_) => false,
-    }
-}
-
-// How many bytes a part has after its first.
-pub fn rest_of(part: Part) -> usize
-    ensures { result ≡ rest_of part }
-{
-    match part {
-        Part::Gap => 0,
-        Part::Block(_, count) => count as usize + 6,
-        Part::End(_) => 0,
-        Part::Refused(_) => 0,
+    match rest.first() {
+        None => Part::Refused(Fault::Short.number()),
+        Some(0) => Part::Gap,
+        Some(_) => match check_block(rest, size) {
+            Ok(()) => right_block(rest),
+            Err(fault) => Part::Refused(fault.number()),
+        },
     }
 }

@@ -26,13 +26,13 @@ sum-short : (s : List ℕ) → length s < count_of s + 1 → sum_number s ≡ 30
 unfolding sum_number is_short
 sum-short s h = rw (lt-ltb (length s) (count_of s + 1) h)
 
-sum-bad : (s : List ℕ) → count_of s + 1 ≤ length s → (byte_sum (whole_block s) % 256 ≡ 0 → ⊥) → sum_number s ≡ 31
+sum_bad : (s : List ℕ) → count_of s + 1 ≤ length s → (byte_sum (whole_block s) % 256 ≡ 0 → ⊥) → sum_number s ≡ 31
 unfolding sum_number
-sum-bad s h n = rw (is-long (count_of s + 1) s h, ne_eqb (byte_sum (whole_block s) % 256) 0 n)
+sum_bad s h n = rw (is-long (count_of s + 1) s h, ne_eqb (byte_sum (whole_block s) % 256) 0 n)
 
-sum-good : (s : List ℕ) → count_of s + 1 ≤ length s → byte_sum (whole_block s) % 256 ≡ 0 → sum_number s ≡ 0
+sum_good : (s : List ℕ) → count_of s + 1 ≤ length s → byte_sum (whole_block s) % 256 ≡ 0 → sum_number s ≡ 0
 unfolding sum_number
-sum-good s h e = rw (is-long (count_of s + 1) s h, eq-eqb (byte_sum (whole_block s) % 256) 0 e)
+sum_good s h e = rw (is-long (count_of s + 1) s h, eq-eqb (byte_sum (whole_block s) % 256) 0 e)
 
 -- the sum of a block whose header says n data bytes, behind which x stands
 whole_sum : (c d a b n : ℕ) (s : List ℕ) → n < length s → c + 256 * d ≡ n + 6
@@ -85,14 +85,14 @@ module _ (l t o : ℕ) (m : List ℕ) (c d a b : ℕ) (counted : 6 ≤ c + 256 *
         decide ((sum + x) % 256) 0
         (λ z.
         accepted (sum + x) t (o + 6 + 1) s
-        (end-number (x ∷ s) ∙ sum-good w (omega arith) (rw e z))
+        (end-number (x ∷ s) ∙ sum_good w (omega arith) (rw e z))
         (eq-eqb (c + 256 * d) 6 six)
         (goes_both (goes_end (x ∷ s))
         (goes_byte l (EndSum (a + 256 * b)) (Accepted (a + 256 * b)) sum t (o + 6) x s m refl refl (rw (eq-eqb ((sum + x) % 256) 0 z)))))
         (λ n.
         let k : o + (c + 256 * d) ≡ o + 6 + 0 = omega arith in
         refused 31
-        (end-number (x ∷ s) ∙ sum-bad w (omega arith) (rw e n))
+        (end-number (x ∷ s) ∙ sum_bad w (omega arith) (rw e n))
         (λ f. omega arith)
         (bad_sum l t o w [] s m (sum + x) (rw none)
         (rw (k, add-zero t)
@@ -169,7 +169,7 @@ module _ (l t o : ℕ) (m : List ℕ) (c d a b : ℕ) (counted : 6 ≤ c + 256 *
         let sum = 1 + c + d + a + b + byte_sum ds in
         let u = rw (past-sum s h) at f in
         let z = add-zero (o + (c + 256 * d)) in
-        refused 31 (data_number s ∙ sum-bad w (omega arith) f) (λ k. omega arith)
+        refused 31 (data_number s ∙ sum_bad w (omega arith) f) (λ k. omega arith)
         (bad_sum l t o w ds (drop (suc n) s) m (sum + x) refl
         (rw (← z)
         (goes_both (goes_past s h)
@@ -193,5 +193,5 @@ module _ (l t o : ℕ) (m : List ℕ) (c d a b : ℕ) (counted : 6 ≤ c + 256 *
         (goes_byte l (Data (a + 256 * b + length ds) 0) Start sum (t + length ds) (o + (c + 256 * d)) x (drop (suc n) s) (puts (a + 256 * b) ds m) refl refl
         (rw (eq-eqb ((sum + x) % 256) 0 u))) in
         let e : drop (n + 7) w ≡ drop (suc n) s = rw k in
-        stored (data_number s ∙ sum-good w (omega arith) f) (ne_eqb (c + 256 * d) 6 (λ i. some (omega arith)))
+        stored (data_number s ∙ sum_good w (omega arith) f) (ne_eqb (c + 256 * d) 6 (λ i. some (omega arith)))
         (rw e (rw (at_zero (sum + x) (t + length ds) (o + (c + 256 * d) + 1) u, j) at g))

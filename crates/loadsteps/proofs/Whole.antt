@@ -17,7 +17,7 @@ use Rattle.loads.specs.Reading.{goes_on, rest_of}
 use Rattle.loads.specs.declared.Part.{Part}
 use Rattle.loads.specs.declared.Part.TheVariants.{Block, End, Refused}
 use Rattle.loads.proofs.Bytes.{decide}
-use Rattle.loads.proofs.Parts.{right, part-block}
+use Rattle.loads.proofs.Parts.{right, part_block}
 use Rattle.loadsteps.specs.Step.{after_start}
 use Rattle.loadsteps.specs.Whole.{held_of, final_of, report_from, stored_from}
 use Rattle.loadsteps.specs.declared.Phase.TheVariants.{Start}
@@ -67,17 +67,17 @@ module _ (l t o : ℕ) (m : List ℕ) where
 -- the part that the tests give
 part-refused : (l b k : ℕ) (s : List ℕ) → (b ≡ 0 → ⊥) → block_number l (b ∷ s) ≡ k → (k ≡ 0 → ⊥) → part_of l (b ∷ s) ≡ Refused k
 unfolding block_by
-part-refused l b k s z e n = part-block l (b ∷ s) (omega arith) z ∙ rw (e, ne_eqb k 0 n)
+part-refused l b k s z e n = part_block l (b ∷ s) (omega arith) z ∙ rw (e, ne_eqb k 0 n)
 
 part-stored : (l b : ℕ) (s : List ℕ) → (b ≡ 0 → ⊥) → block_number l (b ∷ s) ≡ 0 → is_end_block (b ∷ s) ≡ false
     → part_of l (b ∷ s) ≡ Block (address_of (b ∷ s)) (data_count (b ∷ s))
 unfolding block_by right_block
-part-stored l b s z e n = part-block l (b ∷ s) (omega arith) z ∙ rw (e, n)
+part-stored l b s z e n = part_block l (b ∷ s) (omega arith) z ∙ rw (e, n)
 
 part-accepted : (l b : ℕ) (s : List ℕ) → (b ≡ 0 → ⊥) → block_number l (b ∷ s) ≡ 0 → is_end_block (b ∷ s) ≡ true
     → part_of l (b ∷ s) ≡ End (address_of (b ∷ s))
 unfolding block_by right_block
-part-accepted l b s z e n = part-block l (b ∷ s) (omega arith) z ∙ rw (e, n)
+part-accepted l b s z e n = part_block l (b ∷ s) (omega arith) z ∙ rw (e, n)
 
 -- the report at a part, and behind the bytes that are passed
 report_by : (l t o b : ℕ) (s : List ℕ) (p : Part) → part_of l (b ∷ s) ≡ p

@@ -24,7 +24,7 @@ pub enum Phase {
     EndSum(u16),
     // the end block was accepted: the transfer address
     Accepted(u16),
-    // the number of the refusal
+    // the number of the refusal, no Fault: `Answer` has it, and the specs (`shown_at`, `until_end`) compare it
     Refused(u16),
 }
 

@@ -18,18 +18,19 @@ use Rattle.loads.specs.Memory.{limit, bytes_at}
 use Rattle.loads.specs.Writing.{block, full_blocks, short_block, load_file, save_answer, save_output}
 use Rattle.loads.proofs.Bytes.{length-bytes}
 use Rattle.loads.proofs.Trips.{length-block}
+use Rattle.loads.proofs.Laws.{by_fields}
 use Rattle.loadwrite.specs.Sizes.{file_size}
 
 -- lengths
 pub length_data : (m : List ℕ) (a n : ℕ) → length (block a (bytes_at m a n)) ≡ n + 7
 length_data m a n = length-block a (bytes_at m a n) ∙ rw (length-bytes m a n) (omega arith)
 
-pub length-full : (m : List ℕ) (a k : ℕ) → length (full_blocks m a k) ≡ k * 135
+pub length_full : (m : List ℕ) (a k : ℕ) → length (full_blocks m a k) ≡ k * 135
 unfolding full_blocks
-length-full m a zero = omega arith
-length-full m a (suc k) =
+length_full m a zero = omega arith
+length_full m a (suc k) =
     let n : length (block a (bytes_at m a 128)) ≡ 135 = length_data m a 128 in
-    let i : length (full_blocks m (a + 128) k) ≡ k * 135 = length-full m (a + 128) k in
+    let i : length (full_blocks m (a + 128) k) ≡ k * 135 = length_full m (a + 128) k in
     length-append (block a (bytes_at m a 128)) (full_blocks m (a + 128) k) ∙ omega arith
 
 length-short : (m : List ℕ) (a n : ℕ) → length (short_block m a n) ≡ cond (eqb n 0) 0 (n + 7)
@@ -46,7 +47,7 @@ length-file m a n t =
     let y : List ℕ = short_block m (a + q * 128) r in
     let e : length (block t []) ≡ 7 = length-block t [] in
     length-append (x ++ y) (block t [])
-    ∙ rw (length-append x y, length-full m a q, length-short m (a + q * 128) r, e)
+    ∙ rw (length-append x y, length_full m a q, length-short m (a + q * 128) r, e)
 
 -- the full blocks: before the first turn none is written, a turn writes the next one, and after the last all are written
 full-last : (m : List ℕ) (a i : ℕ) → full_blocks m a (suc i) ≡ full_blocks m a i ++ block (a + i * 128) (bytes_at m (a + i * 128) 128)
@@ -59,17 +60,13 @@ full-last m a (suc i) =
     rw (e, append_assoc (block a (bytes_at m a 128)) (full_blocks m (a + 128) i) _)
     (ap (λ (l : List ℕ). block a (bytes_at m a 128) ++ l) (full-last m (a + 128) i))
 
-pub no-full : (m b : List ℕ) (a q : ℕ) → q ≤ length b → Wrote b q (full_blocks m a 0) b q
+pub no_full : (m b : List ℕ) (a q : ℕ) → q ≤ length b → Wrote b q (full_blocks m a 0) b q
 unfolding full_blocks
-no-full m b a q h = none b q h
+no_full m b a q h = none b q h
 
 pub full_more : {b o o' : List ℕ} {q p z : ℕ} (m : List ℕ) (a i at : ℕ) → at ≡ a + i * 128 → Wrote b q (full_blocks m a i) o p
     → Wrote o p (block at (bytes_at m at 128)) o' z → Wrote b q (full_blocks m a (i + 1)) o' z
 full_more m a i at e u v = rw (add-one i, full-last m a i, ← e) (both u v)
-
-pub all-full : {b o : List ℕ} {q p : ℕ} (m : List ℕ) (a i n : ℕ) → i ≤ n → n ≤ i → Wrote b q (full_blocks m a i) o p
-    → Wrote b q (full_blocks m a n) o p
-all-full m a i n h k u = let e : n ≡ i = omega arith in rw e u
 
 -- the shorter one, or none
 pub no_short : (m b : List ℕ) (a n q : ℕ) → q ≤ length b → n ≡ 0 → Wrote b q (short_block m a n) b q
@@ -82,29 +79,24 @@ unfolding short_block
 a_short m a n e u = rw (ne_eqb n 0 e) u
 
 -- the room that the parts take
-pub room-short : (n : ℕ) → n / 128 * 135 + n % 128 + 7 ≤ file_size n
+pub room_short : (n : ℕ) → n / 128 * 135 + n % 128 + 7 ≤ file_size n
 unfolding file_size
-room-short n =
+room_short n =
     (elim (eqb (n % 128) 0) as (λ t. eqb (n % 128) 0 ≡ t → n / 128 * 135 + n % 128 + 7 ≤ n / 128 * 135 + cond t 0 (n % 128 + 7) + 7) [
       | true ↦ λ e. let f = eqb-true (n % 128) 0 e in omega arith
       | false ↦ λ e. omega arith
     ])
     refl
 
-pub room-end : (m : List ℕ) (a n : ℕ) → n / 128 * 135 + length (short_block m a (n % 128)) + 7 ≡ file_size n
+pub room_end : (m : List ℕ) (a n : ℕ) → n / 128 * 135 + length (short_block m a (n % 128)) + 7 ≡ file_size n
 unfolding file_size
-room-end m a n = rw (length-short m a (n % 128))
+room_end m a n = rw (length-short m a (n % 128))
 
 -- the three parts are the file
 pub a_file : {b o o' o'' : List ℕ} {y z x : ℕ} (m : List ℕ) (a n t : ℕ) → Wrote b 0 (full_blocks m a (n / 128)) o y
     → Wrote o y (short_block m (a + n / 128 * 128) (n % 128)) o' z → Wrote o' z (block t []) o'' x → Wrote b 0 (load_file m a n t) o'' x
 unfolding load_file
 a_file m a n t u v w = both (both u v) w
-
--- an answer by its fields
-by_fields : (r : Saved) (n c : ℕ) → (r.number ≡ n) × (r.count ≡ c) → r ≡ record { number = n; count = c }
-by_fields r n c e =
-    ap {B = Saved} (λ x. record { number = x; count = r.count }) e.0 ∙ ap {B = Saved} (λ x. record { number = n; count = x }) e.1
 
 -- the ways out of `save`: a range outside the memory, too short a room, and the file made
 pub outside : (m out : List ℕ) (a n t : ℕ) (r : Saved) → limit m < a + n → (r.number ≡ 29) × (r.count ≡ 0)

@@ -1,7 +1,7 @@
 -- The parts of a block as writes. The data is written byte by byte, each turn of the loop adding the next byte at the end; header and data, one
 -- after the other, are the body; what then stands between the block's start and its end is this body, so that the checksum is that of the body.
 -- Assumes nothing.
-use Prim.Native.Nat.{ℕ, zero, suc, ◌+◌, ◌-◌, ◌/◌, ◌%◌, ◌≤◌}
+use Prim.Native.Nat.{ℕ, zero, suc, ◌+◌, ◌*◌, ◌-◌, ◌/◌, ◌%◌, ◌≤◌}
 use native.Mathlib.Numerals.{add-one}
 use native.Mathlib.Omega.{arith}
 use mathlib.Core.Path.{◌≡◌, refl}
@@ -25,9 +25,12 @@ pub no_data : (m b : List ℕ) (a q : ℕ) → q ≤ length b → Wrote b q (byt
 unfolding bytes_at
 no_data m b a q h = none b q h
 
-pub data_more : {b o o' : List ℕ} {q p z x : ℕ} (m : List ℕ) (a i : ℕ) → Wrote b q (bytes_at m a i) o p → x ≡ byte_at m (a + i)
-    → Wrote o p (x ∷ []) o' z → Wrote b q (bytes_at m a (i + 1)) o' z
-data_more m a i u e v = rw (add-one i, bytes-last m a i, ← e) (both u v)
+-- a last byte behind an even number of them
+pub data_more : {b o o' : List ℕ} {q p z x : ℕ} (m : List ℕ) (a i n : ℕ) → Wrote b q (bytes_at m a (2 * i)) o p → n ≡ 2 * i + 1
+    → x ≡ byte_at m (a + n - 1) → Wrote o p (x ∷ []) o' z → Wrote b q (bytes_at m a n) o' z
+data_more m a i n u k e v =
+    let j : a + n - 1 ≡ a + 2 * i = omega arith in
+    rw (k, add-one (2 * i), bytes-last m a (2 * i), ← j, ← e) (both u v)
 
 -- a word has the bytes of an even address and the next
 pair_is : (m : List ℕ) (a : ℕ) → a % 2 ≡ 0 → (byte_at m a ≡ get_or m (a / 2) 0 % 256) × (byte_at m (a + 1) ≡ get_or m (a / 2) 0 / 256)
@@ -36,17 +39,25 @@ pair_is m a e =
     let n : (a + 1) / 2 ≡ a / 2 = omega arith in
     (rw (eq-eqb (a % 2) 0 e), rw (ne_eqb ((a + 1) % 2) 0 (λ f. omega arith), n))
 
-pub data_two : {b o o' : List ℕ} {q p z : ℕ} (m : List ℕ) (a i w : ℕ) → Wrote b q (bytes_at m a i) o p → (a + i) % 2 ≡ 0
-    → w ≡ get_or m ((a + i) / 2) 0 → Wrote o p (w % 256 ∷ w / 256 ∷ []) o' z → Wrote b q (bytes_at m a (i + 2)) o' z
+pub data_two : {b o o' : List ℕ} {q p z : ℕ} (m : List ℕ) (a i w : ℕ) → Wrote b q (bytes_at m a (2 * i)) o p → a % 2 ≡ 0
+    → w ≡ get_or m (a / 2 + i) 0 → Wrote o p (w % 256 ∷ w / 256 ∷ []) o' z → Wrote b q (bytes_at m a (2 * (i + 1))) o' z
 data_two {b} {o} {o'} {q} {p} {z} m a i w u e k v =
-    let n : i + 2 ≡ suc (suc i) = omega arith in
-    let f : a + suc i ≡ a + i + 1 = omega arith in
-    let h = pair_is m (a + i) e in
-    rw (n, bytes-last m a (suc i), bytes-last m a i, f, h.0, h.1, ← k, append_assoc (bytes_at m a i) (w % 256 ∷ []) (w / 256 ∷ [])) (both u v)
-
-pub all_data : {b o : List ℕ} {q p : ℕ} (m : List ℕ) (a i n : ℕ) → i ≤ n → n ≤ i → Wrote b q (bytes_at m a i) o p
-    → Wrote b q (bytes_at m a n) o p
-all_data m a i n h k u = let e : n ≡ i = omega arith in rw e u
+    let n : 2 * (i + 1) ≡ suc (suc (2 * i)) = omega arith in
+    let f : a + suc (2 * i) ≡ a + 2 * i + 1 = omega arith in
+    let g : (a + 2 * i) / 2 ≡ a / 2 + i = omega arith in
+    let h = pair_is m (a + 2 * i) (omega arith) in
+    rw (
+      n,
+      bytes-last m a (suc (2 * i)),
+      bytes-last m a (2 * i),
+      f,
+      h.0,
+      h.1,
+      g,
+      ← k,
+      append_assoc (bytes_at m a (2 * i)) (w % 256 ∷ []) (w / 256 ∷ []),
+    )
+    (both u v)
 
 -- none, and a first byte by itself
 pub data_none : (m b : List ℕ) (a n q : ℕ) → q ≤ length b → n ≡ 0 → Wrote b q (bytes_at m a n) b q

@@ -1,4 +1,4 @@
-// One block of a load file. Each routine answers the place after what it wrote.
+// One block of a load file. Each routine answers the place after what it wrote, as those of `lines` do: `Wrote` says what the whole room then holds.
 ghost use Rattle.std.specs.Prelude.{[], ◌∷◌, ◌≡◌, ◌+◌, ◌*◌, ◌/◌, ◌%◌, ◌≤◌, ◌<◌, length};
 ghost use Rattle.loads.specs.Memory.{bytes_at};
 ghost use Rattle.loads.specs.Writing.{checksum, block};
@@ -15,17 +15,18 @@ fn put(out: &mut [u8], place: usize, byte: u8) -> usize
 }
 
 // A 16-bit number, low byte first.
-fn put_word(out: &mut [u8], place: usize, word: usize) -> usize
-    requires { (place + 2 ≤ length out.old) × (word < 65536) }
+fn put_word(out: &mut [u8], place: usize, word: u16) -> usize
+    requires { place + 2 ≤ length out.old }
     ensures { Wrote out.old place (word % 256 ∷ word / 256 ∷ []) out.new result }
 {
-    let next = put(out, place, (word % 256) as u8);
-    put(out, next, (word / 256) as u8)
+    let [low, high] = word.to_le_bytes();
+    let next = put(out, place, low);
+    put(out, next, high)
 }
 
 // Byte 1, byte 0, the count and the address.
-fn put_header(out: &mut [u8], place: usize, count: usize, address: usize) -> usize
-    requires { (place + 6 ≤ length out.old) × (count ≤ 128) × (address < 65536) }
+fn put_header(out: &mut [u8], place: usize, count: u16, address: u16) -> usize
+    requires { (place + 6 ≤ length out.old) × (count ≤ 128) }
     ensures { Wrote out.old place (1 ∷ 0 ∷ (6 + count) % 256 ∷ (6 + count) / 256 ∷ address % 256 ∷ address / 256 ∷ []) out.new result }
 {
     let counted = put_word(out, place, 1);
@@ -39,14 +40,13 @@ fn put_even(words: &[u16], address: usize, count: usize, out: &mut [u8], place: 
         × (place + count ≤ length out.old) }
     ensures { Wrote out.old place (bytes_at words.now address count) out.new result }
 {
-    let mut i: usize = 0;
+    let first = address / 2;
     let mut next = place;
-    while i + 1 < count {
-        next = put_word(out, next, words[(address + i) / 2] as usize);
-        i += 2;
+    for word in &words[first..first + count / 2] {
+        next = put_word(out, next, *word);
     }
-    if i < count {
-        return put(out, next, byte_at(words, address + i));
+    if count % 2 == 1 {
+        return put(out, next, byte_at(words, address + count - 1));
     }
     next
 }
@@ -67,10 +67,11 @@ fn put_data(words: &[u16], address: usize, count: usize, out: &mut [u8], place: 
 }
 
 // The byte that makes the sum of these bytes, with itself, 0 modulo 256.
+#[tactic(auto, unfolding(loads::specs::Writing::checksum))]
 fn checksum_of(bytes: &[u8]) -> u8
     ensures { result ≡ checksum bytes.now }
 {
-    ((256 - sum_of(bytes)) % 256) as u8
+    0u8.wrapping_sub(sum_of(bytes))
 }
 
 // A block of the range's bytes.
@@ -85,15 +86,15 @@ pub(crate) fn put_block(
         × (place + count + 7 ≤ length out.old) }
     ensures { Wrote out.old place (block address (bytes_at words.now address count)) out.new result }
 {
-    let filled = put_header(out, place, count, address);
+    let filled = put_header(out, place, count as u16, address as u16);
     let end = put_data(words, address, count, out, filled);
     let check = checksum_of(&out[place..end]);
     put(out, end, check)
 }
 
 // The end block.
-pub(crate) fn put_end(out: &mut [u8], place: usize, transfer: usize) -> usize
-    requires { (place + 7 ≤ length out.old) × (transfer < 65536) }
+pub(crate) fn put_end(out: &mut [u8], place: usize, transfer: u16) -> usize
+    requires { place + 7 ≤ length out.old }
     ensures { Wrote out.old place (block transfer []) out.new result }
 {
     let end = put_header(out, place, 0, transfer);

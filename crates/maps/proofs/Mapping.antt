@@ -8,8 +8,7 @@ use mathlib.Core.Bool.{Bool, true, false, cond, false≢true}
 use mathlib.Core.Logic.{⊎_elim}
 use mathlib.Core.List.{List, [], ◌∷◌, ◌++◌, append_assoc, append-nil}
 use borrow.Author.Tests.{le-leb, lt-leb, leb-true, eqb-true, eqb-false}
-use lib.ListN.{length, take, drop}
-use lib.Seq.{drop-drop}
+use lib.ListN.{length, take, drop, length-drop}
 use lib.Dec.{eqb, leb}
 use Rattle.bools.proofs.Bools.{either_side}
 use Rattle.lines.specs.Wrote.{Wrote}
@@ -19,8 +18,9 @@ use Rattle.loads.specs.Reading.{goes_on, rest_of}
 use Rattle.loads.specs.declared.Part.{Part}
 use Rattle.loads.specs.declared.Part.TheVariants.{Gap, Block, End, Refused}
 use Rattle.loads.specs.declared.Saved.{Saved}
+use Rattle.loads.proofs.Laws.{by_fields}
 use Rattle.loads.proofs.Parts.{Right, right}
-use Rattle.loads.proofs.Streams.{rest-is, passes_at}
+use Rattle.loads.proofs.Streams.{rest-is, passes_here}
 use Rattle.maps.specs.Maps.{line_of, map_from, map_text, map_fits, map_answer, map_output}
 use Rattle.maps.specs.Bounds.{Mappable, most_of}
 
@@ -93,21 +93,19 @@ last-room (Block a n) e = absurd (false≢true (sym e))
 last-room (End t) e = omega arith
 last-room (Refused k) e = omega arith
 
--- the walk at a place: the part there, the lines so far, and the room that they have taken
-pub record Mapping (s b o : List ℕ) (p : Part) (at next : ℕ) : Type 0 where
-  pub within : at ≤ length s
-  pub part : p ≡ part_of 65536 (drop at s)
+-- the walk, where r is left of the stream s: the part that r begins with, the lines so far, and the room that they have taken
+pub record Mapping (s b o : List ℕ) (p : Part) (r : List ℕ) (next : ℕ) : Type 0 where
+  pub part : p ≡ part_of 65536 r
   pub lines : List ℕ
   pub wrote : Wrote b 0 lines o next
-  pub left : lines ++ map_from 0 (drop at s) ≡ map_text s
-  pub short : next ≤ 3 * at
+  pub left : lines ++ map_from 0 r ≡ map_text s
+  pub short : next + 3 * length r ≤ 3 * length s
   pub room : 3 * length s + 16 ≤ length b
 
-pub map-begins : (s b : List ℕ) (p : Part) → map_fits (length s) (length b) ≡ true → p ≡ part_of 65536 s → Mapping s b b p 0 0
+pub map_begins : (s b : List ℕ) (p : Part) → map_fits (length s) (length b) ≡ true → p ≡ part_of 65536 s → Mapping s b b p s 0
 unfolding map_text map_fits
-map-begins s b p h e =
+map_begins s b p h e =
     record {
-      within = omega arith;
       part = e;
       lines = [];
       wrote = none b 0 (omega arith);
@@ -116,55 +114,54 @@ map-begins s b p h e =
       room = leb-true (3 * length s + 16) (length b) h;
     }
 
-pub map-shown : {s b o : List ℕ} {p : Part} {at next : ℕ} → Mapping s b o p at next → Mappable p
-map-shown {s} {b} {o} {p} {at} c = rw c.part (shown (drop at s))
+pub map_shown : {s b o : List ℕ} {p : Part} {r : List ℕ} {next : ℕ} → Mapping s b o p r next → Mappable p
+map_shown {r = r} c = rw c.part (shown r)
 
-pub map-passes : {s b o : List ℕ} {p : Part} {at next : ℕ} → Mapping s b o p at next → goes_on p ≡ true → at + (rest_of p + 1) ≤ length s
-map-passes {s} {b} {o} {p} {at} c h = passes_at 65536 at s p c.within c.part h
+pub map_passes : {s b o : List ℕ} {p : Part} {r : List ℕ} {next : ℕ} → Mapping s b o p r next → goes_on p ≡ true → rest_of p + 1 ≤ length r
+map_passes {p = p} {r = r} c h = passes_here 65536 r p c.part h
 
 -- there is room for the line of the part, whether it goes on or not
-pub map-room : {s b o : List ℕ} {p : Part} {at next : ℕ} → Mapping s b o p at next → goes_on p ≡ true → next + most_of p ≤ length o
-map-room {p = p} c h =
-    omega (arith, c.short, c.room, map-passes c h, line_room p (map-shown c) h, c.wrote.long)
+pub map_room : {s b o : List ℕ} {p : Part} {r : List ℕ} {next : ℕ} → Mapping s b o p r next → goes_on p ≡ true → next + most_of p ≤ length o
+map_room {p = p} c h =
+    omega (arith, c.short, c.room, map_passes c h, line_room p (map_shown c) h, c.wrote.long)
 
-pub map-last-room : {s b o : List ℕ} {p : Part} {at next : ℕ} → Mapping s b o p at next → goes_on p ≡ false → next + most_of p ≤ length o
-map-last-room {p = p} c h = omega (arith, c.short, c.room, c.within, last-room p h, c.wrote.long)
+pub map_last_room : {s b o : List ℕ} {p : Part} {r : List ℕ} {next : ℕ} → Mapping s b o p r next → goes_on p ≡ false → next + most_of p ≤ length o
+map_last_room {p = p} c h = omega (arith, c.short, c.room, last-room p h, c.wrote.long)
 
-pub map_goes : {s b o : List ℕ} {p : Part} {at next : ℕ} (n z : ℕ) (q : Part) (o' : List ℕ) → Mapping s b o p at next → goes_on p ≡ true
-    → n ≡ rest_of p → Wrote o next (line_of p) o' z → z ≤ next + most_of p
-    → q ≡ part_of 65536 (take (length s - (at + (n + 1))) (drop (at + (n + 1)) s)) → Mapping s b o' q (at + (n + 1)) z
-map_goes {s} {b} {o} {p} {at} {next} n z q o' c h e w k f =
-    let r : n ≡ rest_of (part_of 65536 (drop at s)) = e ∙ ap rest_of c.part in
-    let on = map_on (drop at s) (ap goes_on (sym c.part) ∙ h) in
-    let rest = drop (at + (n + 1)) s in
-    let left : line_of p ++ map_from 0 rest ≡ map_from 0 (drop at s) = rw (← drop-drop (n + 1) at s, r, c.part) (sym on) in
+pub map_goes : {s b o : List ℕ} {p : Part} {r : List ℕ} {next : ℕ} (n z : ℕ) (q : Part) (o' : List ℕ) → Mapping s b o p r next → goes_on p ≡ true
+    → n ≡ rest_of p + 1 → Wrote o next (line_of p) o' z → z ≤ next + most_of p
+    → q ≡ part_of 65536 (take (length r - n) (drop n r)) → Mapping s b o' q (take (length r - n) (drop n r)) z
+map_goes {s} {b} {o} {p} {r} {next} n z q o' c h e w k f =
+    let n_is : n ≡ rest_of (part_of 65536 r) + 1 = e ∙ ap (λ (x : Part). rest_of x + 1) c.part in
+    let on = map_on r (ap goes_on (sym c.part) ∙ h) in
+    let rest = drop n r in
+    let left : line_of p ++ map_from 0 rest ≡ map_from 0 r = rw (n_is, c.part) (sym on) in
     record {
-      within = omega (arith, e, map-passes c h);
-      part = f ∙ ap (part_of 65536) (rest-is (at + (n + 1)) s);
+      part = f;
       lines = c.lines ++ line_of p;
       wrote = both c.wrote w;
-      left = append_assoc c.lines (line_of p) (map_from 0 rest) ∙ ap (λ (x : List ℕ). c.lines ++ x) left ∙ c.left;
-      short = omega (arith, e, k, c.short, line_room p (map-shown c) h);
+      left = rw (rest-is n r) (append_assoc c.lines (line_of p) (map_from 0 rest) ∙ ap (λ (x : List ℕ). c.lines ++ x) left ∙ c.left);
+      short = rw (rest-is n r) (omega (arith, e, k, c.short, map_passes c h, line_room p (map_shown c) h, length-drop n r));
       room = c.room;
     }
 
-pub map-ends : {s b o : List ℕ} {p : Part} {at next : ℕ} (z : ℕ) (o' : List ℕ) → Mapping s b o p at next → goes_on p ≡ false
+pub map_ends : {s b o : List ℕ} {p : Part} {r : List ℕ} {next : ℕ} (z : ℕ) (o' : List ℕ) → Mapping s b o p r next → goes_on p ≡ false
     → Wrote o next (line_of p) o' z → Wrote b 0 (map_text s) o' z
-map-ends {s} {b} {o} {p} {at} z o' c h w =
-    let last : map_from 0 (drop at s) ≡ line_of p = map_last (drop at s) (ap goes_on (sym c.part) ∙ h) ∙ ap line_of (sym c.part) in
+map_ends {s = s} {p = p} {r = r} z o' c h w =
+    let last : map_from 0 r ≡ line_of p = map_last r (ap goes_on (sym c.part) ∙ h) ∙ ap line_of (sym c.part) in
     let text : c.lines ++ line_of p ≡ map_text s = ap (λ (x : List ℕ). c.lines ++ x) (sym last) ∙ c.left in
     rw (← text) (both c.wrote w)
 
 -- the whole
-pub map-refused : (s out : List ℕ) → map_fits (length s) (length out) ≡ false
-    → (◌≡◌ {A = Saved} (record { number = 24; count = 0 }) (map_answer s (length out))) × (out ≡ map_output s out) × (0 ≤ length out)
+pub map_refused : (s out : List ℕ) (r : Saved) → map_fits (length s) (length out) ≡ false → (r.number ≡ 24) × (r.count ≡ 0)
+    → (r ≡ map_answer s (length out)) × (out ≡ map_output s out) × (r.count ≤ length out)
 unfolding map_answer map_output
-map-refused s out h = (rw h, rw h, omega arith)
+map_refused s out r h k = (by_fields r 24 0 k ∙ rw h, rw h, omega (arith, k.1))
 
-pub map-made : (s out o : List ℕ) (n : ℕ) → map_fits (length s) (length out) ≡ true → Wrote out 0 (map_text s) o n
+pub map_made : (s out o : List ℕ) (n : ℕ) → map_fits (length s) (length out) ≡ true → Wrote out 0 (map_text s) o n
     → (◌≡◌ {A = Saved} (record { number = 0; count = n }) (map_answer s (length out))) × (o ≡ map_output s out) × (n ≤ length o)
 unfolding map_answer map_output
-map-made s out o n h w =
+map_made s out o n h w =
     let e : n ≡ length (map_text s) = omega (arith, w.ends) in
     let z : 0 + length (map_text s) ≡ length (map_text s) = omega arith in
     (rw (h, e), rw (h, ← z) w.is, omega (arith, w.inside, w.long))

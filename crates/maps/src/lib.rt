@@ -8,8 +8,8 @@ ghost use Rattle.maps.specs.Maps.{octal_digit, octal, block_line, transfer_line,
 ghost use Rattle.maps.specs.Bounds.{Mappable, most_of};
 
 use lines::{put_bytes, refused_line, six_wide};
-use loads::blocks::{goes_on, part_of, rest_of};
-use loads::{Part, Saved};
+use loads::blocks::part_of;
+use loads::{Part, Saved, TOO_SHORT};
 
 // The map is of any memory: of all addresses that there are.
 const ADDRESSES: usize = 65536;
@@ -75,27 +75,26 @@ fn put_line(out: &mut [u8], at: usize, part: Part) -> usize
 }
 
 // Three bytes for each byte of the stream, and 16 more, are enough for its map. The product is never made: it could pass 64 bits.
+#[tactic(auto, using(crate::proofs::Mapping::room_by_lem, crate::proofs::Mapping::no_room))]
 fn has_room(stream: usize, room: usize) -> bool
     ensures { result ≡ map_fits stream room }
 {
-    if room < 16 {
-        return false;
-    }
-    stream <= (room - 16) / 3
+    room >= 16 && stream <= (room - 16) / 3
 }
 
 // The whole map at the start of room that is known to be enough; answers how many bytes it has.
+#[tactic(auto, using(crate::proofs::Mapping::map_begins, crate::proofs::Mapping::map_shown, crate::proofs::Mapping::map_last_room))]
 fn put_map(stream: &[u8], out: &mut [u8]) -> usize
     requires { map_fits (length stream.now) (length out.old) ≡ true }
     ensures { Wrote out.old 0 (map_text stream.now) out.new result }
 {
-    let mut at: usize = 0;
-    let mut next: usize = 0;
+    let mut rest = stream;
+    let mut next = 0;
     let mut part = part_of(stream, ADDRESSES);
-    while goes_on(part) {
+    while let Some(length) = part.length() {
         next = put_line(out, next, part);
-        at += rest_of(part) + 1;
-        part = part_of(&stream[at..], ADDRESSES);
+        rest = &rest[length..];
+        part = part_of(rest, ADDRESSES);
     }
     put_line(out, next, part)
 }
@@ -108,10 +107,7 @@ pub fn map(stream: &[u8], out: &mut [u8]) -> Saved
         × (result.count ≤ length out.new) }
 {
     if !has_room(stream.len(), out.len()) {
-        return Saved {
-            number: 24,
-            count: 0,
-        };
+        return Saved::refused(TOO_SHORT);
     }
     let count = put_map(stream, out);
     Saved { number: 0, count }

@@ -1,5 +1,3 @@
-pub mod Nexts
-pub mod Laid
 pub mod Stops
 pub mod Passing
 pub mod Renewing

@@ -2,20 +2,31 @@
 -- slots after it stay; else an entry is laid there, and the slots after it are mended from its end on. Assumes nothing.
 use Prim.Native.Nat.{ℕ, zero, suc, ◌+◌, ◌-◌, ◌≤◌, ◌<◌}
 use mathlib.Core.Path.{◌≡◌, refl, sym, ap, ◌∙◌}
-use mathlib.Core.Bool.{Bool, true, false, cond, ◌||◌}
+use mathlib.Core.Bool.{Bool, true, false, cond, ◌||◌, true≢false}
 use mathlib.Core.List.{List, ◌∷◌}
 use native.Mathlib.Omega.{arith}
-use lib.ListN.{length, get_or, drop, set}
-use lib.Seq.{get_or-set_same, set-get_or}
+use lib.ListN.{length, get_or, drop, set, length-set}
+use lib.Seq.{get_or-set_same, get_or-set_other, set-get_or}
 use lib.Dec.{eqb}
-use borrow.Author.Tests.{ne_eqb, eqb-true}
+use borrow.Author.Tests.{eq-eqb, ne_eqb, eqb-true}
 use Rattle.bools.proofs.Bools.{neither}
-use Rattle.meaning.specs.Kinds.{end_status, is_permanent, is_end, is_unknown}
+use Rattle.meaning.specs.declared.Kind.TheVariants.{Empty}
+use Rattle.meaning.specs.Kinds.{empty_status, end_status, kind_of, is_permanent, is_end, is_unknown}
 use Rattle.meaning.specs.Words.{Entry, kind, blocks, chunks}
 use Rattle.segment.proofs.Status.{end_is, end-eqb}
 use Rattle.repaired.specs.Tool.{marked, emptied, next_first, no_more, mend}
 use Rattle.mending.specs.Mending.{laid_entry, dealt}
-use Rattle.mending.proofs.Laid.{emptied-kind, emptied-blocks}
+
+-- an entry made empty
+emptied-kind : (n : ℕ) (e : Entry) → 7 ≤ length e → kind (emptied n e) ≡ Empty
+unfolding kind_of
+emptied-kind n e h =
+    let s : get_or (emptied n e) 0 0 ≡ empty_status =
+    get_or-set_other (set e 0 empty_status) 4 0 n 0 (λ z. omega arith) ∙ get_or-set_same e 0 empty_status 0 (omega arith) in
+    rw s refl
+
+emptied-blocks : (n : ℕ) (e : Entry) → 7 ≤ length e → blocks (emptied n e) ≡ n
+emptied-blocks n e h = get_or-set_same (set e 0 empty_status) 4 n 0 (omega (arith, length-set e 0 empty_status))
 
 -- the marker stands or goes into the slot e, after which the slots es come
 abbrev pub stops : Entry → List Entry → Bool
@@ -29,6 +40,15 @@ last-slot (suc zero) w l h = refl
 last-slot (suc (suc n)) w l h =
     let e : suc (suc n) - 1 ≡ suc n = omega arith in
     rw e (sym (ne_eqb (suc (suc n)) 1 (λ z. omega arith)))
+
+-- the same by its index, of m slots
+pub last-is : (i m : ℕ) → i < m → eqb (i + 1) m ≡ eqb (m - i) 1
+last-is i m h = go (eqb (i + 1) m) refl
+  where
+    go : (b : Bool) → eqb (i + 1) m ≡ b → b ≡ eqb (m - i) 1
+    go true e = let k = eqb-true (i + 1) m e in sym (eq-eqb (m - i) 1 (omega arith))
+    go false e =
+        sym (ne_eqb (m - i) 1 (λ z. true≢false (sym (eq-eqb (i + 1) m (omega arith)) ∙ e)))
 
 -- the marker's slot
 pub marked-end : (e : Entry) → 7 ≤ length e → is_end (kind (marked e)) ≡ true

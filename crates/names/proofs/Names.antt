@@ -3,21 +3,19 @@
 use Prim.Native.Nat.{ℕ, zero, suc, ◌+◌, ◌*◌, ◌-◌, ◌/◌, ◌%◌, ◌≤◌, ◌<◌}
 use native.Mathlib.Omega.{arith}
 use mathlib.Core.Path.{◌≡◌, refl, sym, ap, ◌∙◌}
-use mathlib.Core.Bool.{Bool, true, false, cond, ◌&&◌, ◌||◌}
+use mathlib.Core.Bool.{Bool, true, false, cond, ◌&&◌, ◌||◌, true≢false}
 use mathlib.Core.Logic.{⊎_elim}
 use mathlib.Core.List.{List, [], ◌∷◌}
-use borrow.Author.Tests.{leb-true, ltb-true, eqb-true, le-leb}
+use borrow.Author.Tests.{leb-true, ltb-true, eqb-true, le-leb, ne_eqb}
 use native.Mathlib.Nat.{le_of_suc-le-suc, not-suc-le-zero}
-use native.Mathlib.Numerals.{add-one}
-use lib.ListN.{length, get_or, take, drop, length-take, length-drop, drop_of_length-le}
+use lib.ListN.{length, get_or, take, drop, replicate, length-take, length-drop, drop_of_length-le}
 use lib.Seq.{get_or-take, get_or-drop, drop-cons, take_all}
 use lib.Dec.{eqb, leb, ltb}
+use Rattle.std.specs.List.{list_all, prefix_len}
 use Rattle.names.specs.Text.{bytes}
 use Rattle.names.specs.Radix.{space, is_letter, is_digit, alphabet, shown, place, code_of, packed, packed_at, spelled, text_of, in_name, in_text}
 use Rattle.names.specs.Radix.{blank, padded, legal_text, spells, legal_name, words_of_text, text_of_words}
-use Rattle.names.specs.Steps.{Coded, field_step, fine_in}
-use Rattle.names.specs.declared.radix.Field.{Field}
-use Rattle.names.specs.declared.radix.Field.TheVariants.{Characters, Spaces, Wrong}
+use Rattle.names.specs.Steps.{Coded}
 use Rattle.names.specs.declared.radix.NameWords.{NameWords}
 use Rattle.names.specs.declared.radix.NameText.{NameText}
 use Rattle.bools.proofs.Bools.{both, either, either_side}
@@ -143,90 +141,63 @@ legal_in t h k l = ⊎_elim front back (either_side k 6)
 
 -- the three runs in which the bytes of a text stand in the alphabet
 abbrev pub code_by : ℕ → ℕ
-code_by b = cond (eqb b space) 0 (cond (leb b 57) (b - 18) (b - 64))
+code_by b = cond (eqb b space) 0 (cond (is_digit b) (b - 48 + 30) (b - 65 + 1))
 
 in_runs : ℕ → Bool
-in_runs b = cond (in_text b) (eqb (code_of b) (code_by b) && leb 18 b && (leb b 57 || leb 64 b)) true
+in_runs b = cond (in_text b) (eqb (code_of b) (code_by b) && (eqb b space || is_digit b || leb 65 b)) true
 
-in_runs_lem : (b : ℕ) → in_text b ≡ true → eqb (code_of b) (code_by b) && leb 18 b && (leb b 57 || leb 64 b) ≡ true
+in_runs_lem : (b : ℕ) → in_text b ≡ true → (eqb (code_of b) (code_by b) ≡ true) × (eqb b space || is_digit b || leb 65 b ≡ true)
 unfolding in_runs in_text in_name code_of alphabet bytes place
-in_runs_lem b h = rw h at (below in_runs 91 refl b (in_text-small b h))
+in_runs_lem b h = both _ _ (rw h at (below in_runs 91 refl b (in_text-small b h)))
 
 pub code_by_lem : (b r : ℕ) → in_text b ≡ true → code_by b ≡ r → Coded b r
 code_by_lem b r h e =
-    let a = eqb (code_of b) (code_by b) in
-    let p = (both a (leb 18 b) (both (a && leb 18 b) (leb b 57 || leb 64 b) (in_runs_lem b h)).0).0 in
-    let is : r ≡ code_of b = sym (eqb-true (code_of b) (code_by b) p ∙ e) in
+    let is : r ≡ code_of b = sym (eqb-true (code_of b) (code_by b) (in_runs_lem b h).0 ∙ e) in
     record { is = is; small = rw is (code_small b h) }
 
-pub text-from : (b : ℕ) → in_text b ≡ true → 18 ≤ b
-text-from b h =
-    let a = eqb (code_of b) (code_by b) in
-    leb-true 18 b (both a (leb 18 b) (both (a && leb 18 b) (leb b 57 || leb 64 b) (in_runs_lem b h)).0).1
+pub letters_from : (b : ℕ) → in_text b ≡ true → (b ≡ space → ⊥) → is_digit b ≡ false → 65 ≤ b
+letters_from b h s d =
+    leb-true 65 b (rw (ne_eqb b space s, d) at (in_runs_lem b h).1)
 
-pub letters_from : (b : ℕ) → in_text b ≡ true → 57 < b → 64 ≤ b
-letters_from b h l =
-    let a = eqb (code_of b) (code_by b) && leb 18 b in
-    ⊎_elim (λ e. absurd (omega (arith, leb-true b 57 e))) (λ e. leb-true 64 b e)
-    (either (leb b 57) (leb 64 b) (both a (leb b 57 || leb 64 b) (in_runs_lem b h)).1)
+-- a field as the code tries it: what follows the first byte that a name can't have is blank
+all_blank : (l : List ℕ) → list_all (λ b. eqb b space) l ≡ blank l
+unfolding blank
+all_blank [] = refl
+all_blank (b ∷ l) = rw (all_blank l)
 
--- a field read byte by byte, from where it stands
-abbrev pub run_in : Field → List ℕ → Bool
-run_in Characters l = padded l
-run_in Spaces l = blank l
-run_in Wrong l = false
+no_space : (b : ℕ) → in_name b ≡ true → eqb b space ≡ false
+unfolding in_name
+no_space b h = ne_eqb b space (λ e. true≢false (sym h ∙ ap in_name e))
 
-in_characters : (x y : Bool) (l : List ℕ) → cond x (blank l) (y && padded l) ≡ run_in (cond x Spaces (cond y Characters Wrong)) l
-in_characters true y l = refl
-in_characters false true l = refl
-in_characters false false l = refl
+only_if : (x y : Bool) → x && y ≡ cond x y false
+only_if true y = refl
+only_if false y = refl
 
-in_spaces : (x : Bool) (l : List ℕ) → x && blank l ≡ run_in (cond x Spaces Wrong) l
-in_spaces true l = refl
-in_spaces false l = refl
-
-pub run_step : (f : Field) (b : ℕ) (l : List ℕ) → run_in f (b ∷ l) ≡ run_in (field_step f b) l
+pub padded_after : (l : List ℕ) → list_all (λ b. eqb b space) (drop (prefix_len in_name l) l) ≡ padded l
 unfolding padded blank
-run_step Characters b l = in_characters (eqb b space) (in_name b) l
-run_step Spaces b l = in_spaces (eqb b space) l
-run_step Wrong b l = refl
-
-pub run_none : (f : Field) → run_in f [] ≡ fine_in f
-unfolding padded blank
-run_none Characters = refl
-run_none Spaces = refl
-run_none Wrong = refl
-
--- the same, at a place of the bytes
-pub run-next : (f : Field) (l : List ℕ) (i : ℕ) → i < length l → run_in (field_step f (get_or l i 0)) (drop (i + 1) l) ≡ run_in f (drop i l)
-run-next f l i h = rw (add-one, ← run_step f (get_or l i 0) (drop (suc i) l), ← drop-cons l i 0 h)
-
-pub run_end : (f : Field) (l : List ℕ) (i : ℕ) → length l ≤ i → run_in f (drop i l) ≡ fine_in f
-run_end f l i h = rw (drop_of_length-le l h) (run_none f)
+padded_after [] = refl
+padded_after (b ∷ l) = split (in_name b) refl (padded_after l)
+  where
+    split : (t : Bool) → in_name b ≡ t → list_all (λ x. eqb x space) (drop (prefix_len in_name l) l) ≡ padded l
+        → list_all (λ x. eqb x space) (drop (cond t (1 + prefix_len in_name l) 0) (b ∷ l)) ≡ cond (eqb b space) (blank l) (t && padded l)
+    split true e h =
+        let n : 1 + prefix_len in_name l ≡ suc (prefix_len in_name l) = omega arith in
+        rw (no_space b e, n) h
+    split false e h = rw (all_blank l) (only_if (eqb b space) (blank l))
 
 -- the extension, as the part from 6 to 9
 pub last-three : (t : List ℕ) → length t ≡ 9 → take 3 (drop 6 t) ≡ drop 6 t
 last-three t h = take_all 3 (drop 6 t) (rw length-drop (omega arith))
 
--- what the text of three words tells of them
-spelled-or : (a b c : ℕ) (t : Bool) → spells a && spells b && spells c ≡ t
-    → (((text_of_words a b c).number ≡ 0 → ⊥) → false ≡ legal_name a b c)
-    × ((text_of_words a b c).number ≡ 0 → legal_text (text_of_words a b c).text ≡ legal_name a b c)
+-- three words are a name where they spell a text, and that one is legal
+pub legal_by_text : (a b c : ℕ) → legal_name a b c ≡ (eqb (text_of_words a b c).number 0 && legal_text (text_of_words a b c).text)
 unfolding text_of_words legal_name
-spelled-or a b c true e = (λ n. absurd (n (rw e)), λ n. rw e)
-spelled-or a b c false e = (λ n. rw e, λ n. absurd (seven (rw e at n)))
+legal_by_text a b c = told (spells a && spells b && spells c) (text_of a b c)
   where
-    seven : ◌≡◌ {A = ℕ} 7 0 → ⊥
-    seven n = omega arith
-
-pub refused-name : (a b c : ℕ) (n : NameText) → n ≡ text_of_words a b c → (n.number ≡ 0 → ⊥) → false ≡ legal_name a b c
-refused-name a b c n e h =
-    (spelled-or a b c (spells a && spells b && spells c) refl).0 (λ z. h (ap (λ (x : NameText). x.number) e ∙ z))
-
-pub spelled-name : (a b c : ℕ) (n : NameText) → n ≡ text_of_words a b c → n.number ≡ 0 → legal_text n.text ≡ legal_name a b c
-spelled-name a b c n e h =
-    ap (λ (x : NameText). legal_text x.text) e
-    ∙ (spelled-or a b c (spells a && spells b && spells c) refl).1 (ap (λ (x : NameText). x.number) (sym e) ∙ h)
+    told : (s : Bool) (t : List ℕ) → let n = cond {A = NameText} s (record { number = 0; text = t }) (record { number = 7; text = replicate 9 space }) in
+        s && legal_text t ≡ (eqb n.number 0 && legal_text n.text)
+    told true t = refl
+    told false t = refl
 
 -- a list of nine, by its elements
 abbrev elements : ℕ → ℕ → List ℕ → List ℕ
@@ -281,7 +252,4 @@ same-words t u h k e =
 pub words-legal : (t : List ℕ) → legal_text t ≡ true → legal_name (words_of_text t).first (words_of_text t).second (words_of_text t).extension ≡ true
 words-legal t h =
     let w = words_of_text t in
-    let e = text-words-text t h in
-    sym (spelled-name w.first w.second w.extension (text_of_words w.first w.second w.extension) refl (ap (λ (n : NameText). n.number) e))
-    ∙ ap (λ (n : NameText). legal_text n.text) e
-    ∙ h
+    rw (legal_by_text w.first w.second w.extension, text-words-text t h) h

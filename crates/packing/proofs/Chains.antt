@@ -29,12 +29,13 @@ use Rattle.squeezed.specs.Squeeze.{free_up_to, moves, left_over, packed_entries,
 use Rattle.tally.specs.Walks.{next_free}
 use Rattle.packing.specs.Anew.{last_block, new_entries, moves_in, Packable, PackedTo}
 use Rattle.packing.proofs.Listing.{Listing, lists, list-room, lists_on, listed-all}
-use Rattle.tally.proofs.Onward.{Onward, Here, onward, here}
+use Rattle.tally.proofs.Onward.{Within, Onward, Here, onward, here, within}
 
 -- the directory d₀ has become d and the list list₀ has become list; left segments are ahead, the next of them s
 pub record Renewing (v : ℕ) (d₀ list₀ d : List ℕ) (left s p : ℕ) (list : List ℕ) (at : ℕ) : Type 0 where
   pub block : ℕ
   pub on : Onward v d₀ left s block p
+  pub place : Within d₀ left s
   pub long : length d ≡ length d₀
   pub links : linked left d₀ s ≡ true
   pub same : (m z : ℕ) → m ≤ left → linked m d₀ z ≡ true → 1 ≤ m → segment d z ≡ segment d₀ z
@@ -49,6 +50,7 @@ renews {v} {d} list sd room =
     record {
       block = first_data d;
       on = onward sd;
+      place = within sd (onward sd);
       long = refl;
       links = sd.links;
       same = λ m z l h o. refl;
@@ -144,9 +146,11 @@ module _ {v : ℕ} {d₀ : List ℕ} (sd : Sound v d₀) (list₀ : List ℕ) wh
           let k : suc n - 1 ≡ n = omega arith in
           let e : link_at d₀ s ≡ link_of g₀ = sym (header d₀ s 1 (omega arith)) in
           let first = at_hand.first in
+          let on = rw (k, e) at at_hand.rest in
           record {
             block = i.block + total (entries_in (slot_words d₀) d₀ s);
-            on = rw free-made (rw (k, e) at at_hand.rest);
+            on = rw free-made on;
+            place = within sd on;
             long = with_length d s g at_hand.low whole long_made ∙ i.long;
             links = (visit n d₀ s i.links).rest;
             same = same_then;
@@ -157,13 +161,6 @@ module _ {v : ℕ} {d₀ : List ℕ} (sd : Sound v d₀) (list₀ : List ℕ) wh
 
   -- as code counts the segments ahead
   module _ {left : ℕ} {d : List ℕ} {s p : ℕ} {list : List ℕ} {at : ℕ} where
-    pub at-segment : 0 < left → Renewing v d₀ list₀ d left s p list at → (1 ≤ s) × (512 * s ≤ length d) × (s ≤ 31)
-    at-segment h i = go left h i
-      where
-        go : (m : ℕ) → 0 < m → Renewing v d₀ list₀ d m s p list at → (1 ≤ s) × (512 * s ≤ length d) × (s ≤ 31)
-        go zero h i = absurd (omega arith)
-        go (suc n) h i = ((at_hand n i).low, whole n i, (at_hand n i).most)
-
     pub packable : 0 < left → Renewing v d₀ list₀ d left s p list at → length (move_words (moves d₀)) ≤ length list₀
         → Packable v (slot_words d₀) left p (part_of d s) × (at + length (moves_in (slot_words d₀) p (part_of d s)) ≤ length list)
     packable h i room = go left h i

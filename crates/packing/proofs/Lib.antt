@@ -1,4 +1,3 @@
-pub mod Copying
 pub mod Walks
 pub mod Outs
 pub mod Rendering

@@ -3,15 +3,14 @@
 use Prim.Native.Nat.{ℕ, ◌+◌, ◌-◌, ◌≤◌}
 use mathlib.Core.Path.{◌≡◌, refl, sym, ap, ◌∙◌}
 use mathlib.Core.Bool.{Bool, true, false, cond}
+use mathlib.Core.Logic.{◌⊎◌, inl, inr}
 use mathlib.Core.List.{List, [], ◌∷◌, ◌++◌, append-nil, append_assoc}
 use native.Mathlib.Omega.{arith}
-use lib.ListN.{length, get_or, take, drop, set, replicate, length-append, length-drop}
-use lib.Seq.{length-take-le}
+use lib.ListN.{length, take, set, replicate, length-append}
 use borrow.Author.Tests.{eq-eqb, ne_eqb}
-use Rattle.meaning.specs.Kinds.{empty_status, kind_of, is_permanent}
+use Rattle.meaning.specs.Kinds.{empty_status}
 use Rattle.meaning.specs.Words.{Entry, blocks}
 use Rattle.meaning.specs.Requests.{entry_of, empty_entry, flat}
-use Rattle.walks.proofs.Words.{word}
 use Rattle.walks.proofs.Flat.{flat_append, flat-split}
 use Rattle.segment.specs.Written.{Written}
 use Rattle.segment.proofs.Writes.{both_written}
@@ -19,7 +18,6 @@ use Rattle.render.proofs.Anew.{entry-take, blank}
 use Rattle.squeezed.specs.Moves.{Move, idle, needed}
 use Rattle.squeezed.specs.Squeeze.{is_file, new_place, free_after, places, left_over, packed_entries, move_words}
 use Rattle.squeezed.proofs.Along.{needed-append}
-use Rattle.tally.proofs.Places.{file-at}
 use Rattle.packing.specs.Packs.{left_words, out_words, packed_words, one_move, move_out, list_words}
 use Rattle.packing.proofs.Walks.{Stepwise}
 
@@ -31,71 +29,45 @@ left-none w p q e = rw (eq-eqb p q e)
 abbrev pub gap_array : ℕ → List ℕ
 gap_array n = set (set (replicate 23 0) 0 empty_status) 4 n
 
-pub gap_length : (w n : ℕ) → w ≤ 23 → length (take w (gap_array n)) ≡ w
-gap_length w n h = length-take-le w (gap_array n) (omega arith)
-
 pub left-some : (w p q : ℕ) → (p ≡ q → ⊥) → 7 ≤ w → w ≤ 23 → take w (gap_array (q - p)) ≡ left_words w p q
 unfolding left_over flat entry_of
 left-some w p q ne h k =
     rw (ne_eqb p q ne, append-nil (empty_entry w (q - p))) (entry-take w empty_status blank (q - p) 0 0 h k)
 
 -- a move that is needed, or not
-pub move-there : (b q n : ℕ) → b ≡ q → one_move b q n ≡ []
+pub move-none : (b q n : ℕ) → (b ≡ q) ⊎ ((b ≡ q → ⊥) × (n ≡ 0)) → one_move b q n ≡ []
 unfolding needed idle move_words
-move-there b q n e = rw (eq-eqb b q e) refl
-
-pub move-nothing : (b q n : ℕ) → (b ≡ q → ⊥) → n ≡ 0 → one_move b q n ≡ []
-unfolding needed idle move_words
-move-nothing b q n ne e = rw (ne_eqb b q ne, eq-eqb n 0 e) refl
+move-none b q n (inl e) = rw (eq-eqb b q e) refl
+move-none b q n (inr e) = rw (ne_eqb b q e.0, eq-eqb n 0 e.1) refl
 
 pub move_some : (b q n : ℕ) → (b ≡ q → ⊥) → (n ≡ 0 → ⊥) → one_move b q n ≡ b ∷ q ∷ n ∷ []
 unfolding needed idle move_words
 move_some b q n ne some = rw (ne_eqb b q ne, ne_eqb n 0 some) refl
 
--- what the slot at word k lets out
-module _ (g : List ℕ) (k w b p : ℕ) (wide : 7 ≤ w) where
-  pub out_none : is_permanent (kind_of (get_or g k 0)) ≡ false → out_words w b p (take w (drop k g)) ≡ []
-  out_none h = rw (file-at g k w wide, h) refl
+-- a file e goes to block q, and there is room for what it lets out
+pub record Filed (e : Entry) (b p q : ℕ) (before : List ℕ) (at : ℕ) : Type 0 where
+  pub file : is_file e ≡ true
+  pub place : q ≡ new_place b p e
+  pub room : at + length (out_words (length e) b p e) ≤ length before
 
-  pub out-file : is_permanent (kind_of (get_or g k 0)) ≡ true
-      → out_words w b p (take w (drop k g)) ≡ left_words w p (new_place b p (take w (drop k g))) ++ take w (drop k g)
-  out-file h = rw (file-at g k w wide, h) refl
+-- what is left over before it is written, and then its own words
+module _ {e : Entry} {b p q : ℕ} {before : List ℕ} {at : ℕ} (x : Filed e b p q before at) where
+  words_are : out_words (length e) b p e ≡ left_words (length e) p q ++ e
+  words_are = rw (x.file, x.place) refl
 
-  pub move-none : is_permanent (kind_of (get_or g k 0)) ≡ false → move_out b p (take w (drop k g)) ≡ []
-  move-none h = rw (file-at g k w wide, h) refl
+  parts : length (out_words (length e) b p e) ≡ length (left_words (length e) p q) + length e
+  parts = rw words_are (length-append (left_words (length e) p q) e)
 
-  pub move-file : is_permanent (kind_of (get_or g k 0)) ≡ true → (q : ℕ) → q ≡ new_place b p (take w (drop k g))
-      → one_move b q (get_or g (k + 4) 0) ≡ move_out b p (take w (drop k g))
-  move-file h q e = rw (file-at g k w wide, h, e, word g k w 4 (omega arith)) refl
-
--- a file at word k of the segment g goes to block q, and there is room for what it lets out
-pub record Filed (g : List ℕ) (k w b p q : ℕ) (before : List ℕ) (at : ℕ) : Type 0 where
-  pub wide : 7 ≤ w
-  pub inside : k + w ≤ length g
-  pub file : is_permanent (kind_of (get_or g k 0)) ≡ true
-  pub place : q ≡ new_place b p (take w (drop k g))
-  pub room : at + length (out_words w b p (take w (drop k g))) ≤ length before
-
--- what is left over before it is written, and then its slot
-module _ {g : List ℕ} {k w b p q : ℕ} {before : List ℕ} {at : ℕ} (x : Filed g k w b p q before at) where
-  words_are : out_words w b p (take w (drop k g)) ≡ left_words w p q ++ take w (drop k g)
-  words_are = rw x.place (out-file g k w b p x.wide x.file)
-
-  parts : length (out_words w b p (take w (drop k g))) ≡ length (left_words w p q) + length (take w (drop k g))
-  parts = rw words_are (length-append (left_words w p q) (take w (drop k g)))
-
-  pub left-room : at + length (left_words w p q) ≤ length before
+  pub left-room : at + length (left_words (length e) p q) ≤ length before
   left-room = omega (arith, parts, x.room)
 
-  pub slot-room : {m : List ℕ} {y : ℕ} → Written before at (left_words w p q) m y → y + w ≤ length m
-  slot-room {m} {y} u =
-      let l : length (take w (drop k g)) ≡ w = length-take-le w (drop k g) (simp length-drop (omega (arith, x.inside))) in
-      omega (arith, parts, x.room, u.next, u.long)
+  pub slot-room : {m : List ℕ} {y : ℕ} → Written before at (left_words (length e) p q) m y → y + length e ≤ length m
+  slot-room {m} {y} u = omega (arith, parts, x.room, u.next, u.long)
 
-  pub file-made : {m a : List ℕ} {y z : ℕ} → Written before at (left_words w p q) m y → Written m y (take w (drop k g)) a z
-      → Written before at (out_words w b p (take w (drop k g))) a z
+  pub file-made : {m a : List ℕ} {y z : ℕ} → Written before at (left_words (length e) p q) m y → Written m y e a z
+      → Written before at (out_words (length e) b p e) a z
   file-made {m} {a} {y} {z} u v =
-      rw words_are (both_written before (left_words w p q) m (take w (drop k g)) a at y z (omega (arith, x.room)) u v)
+      rw words_are (both_written before (left_words (length e) p q) m e a at y z (omega (arith, x.room)) u v)
 
 -- the words of the next entry and those after it
 packed_step : (w b p : ℕ) (e : Entry) (es : List Entry)

@@ -7,14 +7,14 @@ use mathlib.Core.List.{List, [], ◌∷◌, ◌++◌}
 use native.Mathlib.Nat.{mul-le-mul_right, div-mul-le_self, add-mul}
 use native.Mathlib.Omega.{arith}
 use lib.ListN.{length, take, set, replicate, length-append, length-set, length-replicate}
-use lib.Seq.{paste, length-take-le}
+use lib.Seq.{length-take-le}
 use lib.Dec.{eqb}
 use Rattle.meaning.specs.Kinds.{end_status}
-use Rattle.meaning.specs.Words.{Entry, kind, first_of, slot_count, slots, upto}
+use Rattle.meaning.specs.Words.{Entry, first_of, slot_count, slots, upto}
 use Rattle.meaning.specs.Requests.{flat, render}
 use Rattle.walks.proofs.Flat.{Proper, entries_proper, flat-length, flat_both}
 use Rattle.segment.specs.Written.{Written}
-use Rattle.segment.proofs.Writes.{both_written, set-written, copied-whole}
+use Rattle.segment.proofs.Writes.{both_written, set-written}
 use Rattle.render.specs.Anew.{rendered_words}
 use Rattle.render.proofs.Anew.{segment-written, rendered}
 use Rattle.squeezed.specs.Squeeze.{new_place, left_over, packed_entries}
@@ -101,26 +101,12 @@ module _ {v w left p : ℕ} {g : List ℕ} (ready : Packable v w left p g) where
         → Written (set o₁ 4 p) y₁ (packed_words w (first_of g) p es) o₂ y₂ → y₂ + length (left_words w f q) < 512
     left-room {o₁} {o₂} {y₁} {y₂} u₁ u₂ = rw left_is (omega (arith, words-room, header-end u₁, u₂.next))
 
-    pub still_whole : {o₁ o₂ o₃ : List ℕ} {y₁ y₂ y₃ : ℕ}
-        → Written (replicate 512 0) 0 (take 5 g) o₁ y₁
-        → Written (set o₁ 4 p) y₁ (packed_words w (first_of g) p es) o₂ y₂
-        → Written o₂ y₂ (left_words w f q) o₃ y₃
-        → length (set o₃ y₃ end_status) ≡ length g
-    still_whole {o₁} {o₂} {o₃} {y₁} {y₂} {y₃} u₁ u₂ u₃ =
-        length-set o₃ y₃ end_status
-        ∙ u₃.long
-        ∙ u₂.long
-        ∙ length-set o₁ 4 p
-        ∙ u₁.long
-        ∙ length-replicate {A = ℕ} 512 0
-        ∙ sym ready.walk.whole
-
     -- header, entries, what is left over, marker; and all of it copied back
     pub segment-made : {o₁ o₂ o₃ x : List ℕ} {y₁ y₂ y₃ : ℕ}
         → Written (replicate 512 0) 0 (take 5 g) o₁ y₁
         → Written (set o₁ 4 p) y₁ (packed_words w (first_of g) p es) o₂ y₂
         → Written o₂ y₂ (left_words w f q) o₃ y₃
-        → x ≡ paste g 0 (set o₃ y₃ end_status) (length (set o₃ y₃ end_status))
+        → x ≡ set o₃ y₃ end_status
         → PackedTo v w left p g x f
     unfolding new_entries rendered_words
     segment-made {o₁} {o₂} {o₃} {x} {y₁} {y₂} {y₃} u₁ u₂ u₃ u₄ =
@@ -134,4 +120,4 @@ module _ {v w left p : ℕ} {g : List ℕ} (ready : Packable v w left p g) where
         let k : y₃ < 512 = omega (arith, left-room u₁ u₂, u₃.next) in
         let made : set o₃ y₃ end_status ≡ render h (packed_entries w (first_of g) p es ++ last) =
         segment-written 512 k v₁ (rw (← words_both) at v₃) ∙ sym (rendered h (packed_entries w (first_of g) p es ++ last)) in
-        record { words = u₄ ∙ copied-whole g (set o₃ y₃ end_status) (still_whole u₁ u₂ u₃) ∙ made; free = is_free }
+        record { words = u₄ ∙ made; free = is_free }

@@ -1,9 +1,9 @@
 -- What is written, slot by slot: the words of a segment's packed entries, and those of its moves.
-use Rattle.std.specs.Prelude.{ℕ, ◌+◌, ◌≤◌, ◌≡◌, cond, List, [], ◌∷◌, ◌++◌, length}
+use Rattle.std.specs.Prelude.{ℕ, ◌≤◌, ◌≡◌, cond, List, [], ◌∷◌, ◌++◌, length}
 use Rattle.meaning.specs.Words.{Entry, blocks, slots, upto}
 use Rattle.meaning.specs.Requests.{flat}
 use Rattle.segment.specs.Written.{Written}
-use Rattle.squeezed.specs.Moves.{Move, needed}
+use Rattle.squeezed.specs.Moves.{needed}
 use Rattle.squeezed.specs.Squeeze.{is_file, new_place, free_after, free_up_to, places, left_over, packed_entries, move_words}
 use Rattle.packing.specs.declared.Place.{Place}
 
@@ -31,17 +31,15 @@ move_out b p e = cond (is_file e) (one_move b (new_place b p e) (blocks e)) []
 abbrev pub list_words : ℕ → ℕ → List Entry → List ℕ
 list_words b p es = move_words (needed (places b p es))
 
--- what is presumed of a slot: it lies in the segment g, and the next free block p has not passed the block b where its entry stands
-pub record Slotted (g : List ℕ) (k w b p : ℕ) : Type 0 where
-  pub wide : 7 ≤ w
-  pub narrow : w ≤ 23
-  pub inside : k + w ≤ length g
+-- what is presumed of an entry: the next free block p has not passed the block b where it stands
+pub record Passable (e : Entry) (b p : ℕ) : Type 0 where
+  pub narrow : length e ≤ 23
   pub low : p ≤ b
   pub high : b ≤ 65535
 
 -- what comes out of an entry e that stands at block b, from the place x on: its words in the segment made anew, its move in the list
-pub record SlotPassed (e : Entry) (w b : ℕ) (x : Place) (out out' list list' : List ℕ) (r : Place) : Type 0 where
-  pub entries : Written out x.at (out_words w b x.free e) out' r.at
+pub record EntryPassed (e : Entry) (b : ℕ) (x : Place) (out out' list list' : List ℕ) (r : Place) : Type 0 where
+  pub entries : Written out x.at (out_words (length e) b x.free e) out' r.at
   pub moves : Written list x.listed (move_out b x.free e) list' r.listed
   pub free : r.free ≡ free_after b x.free e
 

@@ -9,16 +9,13 @@ ghost use Rattle.packing.specs.Anew.{last_block, moves_in, Packable, PackedTo};
 use crate::Place;
 use crate::entries::{pass_entries, put_left};
 use meaning::END;
-use segment::copying::{copy_words, put_words};
+use segment::copying::put_words;
 
 // The block up to which what is left over stands last in a segment: the volume's end in the last one, and in any other nothing.
 fn end_of(left: usize, free: usize, v: usize) -> usize
     ensures { result ≡ last_block left free v }
 {
-    if left == 1 {
-        return v;
-    }
-    free
+    if left == 1 { v } else { free }
 }
 
 // One segment, whose files are packed from the next free block on, and its moves, from `listed` on in the list. The answer tells where the next
@@ -46,7 +43,7 @@ fn pack_segment(
     let last = end_of(left, place.free, v);
     let end = put_left(&mut out, place.at, width, place.free, last);
     out[end] = END;
-    copy_words(&out, segment, 0);
+    segment.copy_from_slice(&out);
     place
 }
 
@@ -59,18 +56,16 @@ pub fn pack_chain(words: &mut [u16], v: usize, list: &mut [u16])
         ≡ move_words (moves words.old) ++ drop (length (move_words (moves words.old))) list.old) }
 {
     let width = 7 + (words[3] / 2) as usize;
-    let mut left: usize = words[2] as usize;
+    let highest = words[2] as usize;
     let mut number: usize = 1;
     let mut free: usize = 6 + 2 * (words.len() / 512);
     let mut listed: usize = 0;
-    while 0 < left {
+    for passed in 0..highest {
         let start = 512 * (number - 1);
-        let end = start + 512;
-        let next = words[start + 1] as usize;
-        let place = pack_segment(&mut words[start..end], width, left, free, v, list, listed);
+        number = words[start + 1] as usize;
+        let segment = &mut words[start..start + 512];
+        let place = pack_segment(segment, width, highest - passed, free, v, list, listed);
         free = place.free;
         listed = place.listed;
-        number = next;
-        left -= 1;
     }
 }

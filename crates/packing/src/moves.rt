@@ -10,15 +10,8 @@ pub fn put_move(list: &mut [u16], at: usize, stands: usize, place: usize, blocks
     requires { (place ≤ stands) × (stands ≤ 65535) × (at + length (one_move stands place blocks) ≤ length list.old) }
     ensures { Written list.old at (one_move stands place blocks) list.new result }
 {
-    if stands == place {
+    if stands == place || blocks == 0 {
         return at;
     }
-    if blocks == 0 {
-        return at;
-    }
-    let mut words = [0u16; 3];
-    words[0] = stands as u16;
-    words[1] = place as u16;
-    words[2] = blocks;
-    put_words(&words, list, at)
+    put_words(&[stands as u16, place as u16, blocks], list, at)
 }

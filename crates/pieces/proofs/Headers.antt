@@ -60,9 +60,9 @@ header-six r (x ∷ y ∷ c ∷ []) m z p h = absurd (omega (arith, h.whole))
 header-six r (x ∷ y ∷ c ∷ d ∷ []) m z p h = absurd (omega (arith, h.whole))
 header-six r (x ∷ y ∷ c ∷ d ∷ a ∷ []) m z p h = absurd (omega (arith, h.whole))
 
-pub header-passed : {l n : ℕ} {r : Reader} {s : List ℕ} (r' : Reader) → Fits r → r.phase ≡ Start → DataHeader l n s
+pub header_passed : {l n : ℕ} {r : Reader} {s : List ℕ} (r' : Reader) → Fits r → r.phase ≡ Start → DataHeader l n s
     → r' ≡ behind_header r n s → PassedOver l r s 6 r'
-header-passed {l} {n} {r} {s} r' z p h e =
+header_passed {l} {n} {r} {s} r' z p h e =
     record {
       some = omega arith;
       within = h.whole;

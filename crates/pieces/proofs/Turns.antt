@@ -4,11 +4,11 @@
 use Prim.Native.Nat.{ℕ, suc, ◌+◌, ◌*◌, ◌-◌, ◌≤◌, ◌<◌}
 use native.Mathlib.Omega.{arith}
 use mathlib.Core.Path.{◌≡◌, refl, sym, ap, ◌∙◌}
-use mathlib.Core.Bool.{Bool, true, false, not, true≢false, false≢true}
+use mathlib.Core.Bool.{Bool, true, false, false≢true}
 use mathlib.Core.List.{List, [], ◌∷◌, append-nil}
 use borrow.Author.Tests.{lt-ltb, le-ltb, eq-eqb, ne_eqb}
-use lib.ListN.{length, get_or, take, drop, length-drop, take-append-drop, drop_of_length-le}
-use lib.Seq.{length-take-le, drop-drop}
+use lib.ListN.{length, get_or, take, drop, take-append-drop}
+use lib.Seq.{length-take-le}
 use lib.Dec.{eqb}
 use Rattle.loads.specs.Memory.{limit, put_byte, puts}
 use Rattle.loads.specs.Blocks.{byte_sum}
@@ -32,9 +32,9 @@ unfolding read fill kept_by
 one_by l r [] m h d = absurd (omega arith)
 one_by l r (b ∷ s) m h d = (refl, rw d)
 
-pub one-passed : {l : ℕ} {r : Reader} {s : List ℕ} (n : ℕ) (r' : Reader) → 0 < length s → is_data l (role_of r.phase) ≡ false → n ≡ 1
+pub one_passed : {l : ℕ} {r : Reader} {s : List ℕ} (n : ℕ) (r' : Reader) → 0 < length s → is_data l (role_of r.phase) ≡ false → n ≡ 1
     → r' ≡ next l r (get_or s 0 0) → PassedOver l r s n r'
-one-passed {l} {r} {s} n r' k d e f =
+one_passed {l} {r} {s} n r' k d e f =
     record {
       some = omega arith;
       within = omega arith;
@@ -47,7 +47,7 @@ passed_took {l} {r} {s} {m} p = record { some = p.some; within = p.within; state
 
 pub one_took : {l : ℕ} {r : Reader} {s m : List ℕ} (n : ℕ) (r' : Reader) → Ready l r s m → is_data l (role_of r.phase) ≡ false → n ≡ 1
     → r' ≡ next l r (get_or s 0 0) → Took l r s m n r' m
-one_took n r' h d e f = passed_took (one-passed n r' h.some d e f)
+one_took n r' h d e f = passed_took (one_passed n r' h.some d e f)
 
 -- data bytes in a row
 run-from : (l : ℕ) (r : Reader) (a n b : ℕ) (ds m : List ℕ) → r.phase ≡ Data a n → suc (length ds) ≤ n → a + suc (length ds) ≤ l
@@ -74,9 +74,6 @@ run-some l r a n (b ∷ ds) m e z h k = run-from l r a n b ds m e h k
 
 pub positive : {n : ℕ} → (n ≡ 0 → ⊥) → 0 < n
 positive {n} h = omega arith
-
-pub above : {n k : ℕ} → (n ≡ 0 → ⊥) → n ≡ k → 0 < k
-above {n} {k} h e = omega arith
 
 -- what a run's length tells
 pub run_fits : (l a n k : ℕ) → 0 < run_length l a n k → (run_length l a n k ≤ k) × (run_length l a n k ≤ n) × (a + run_length l a n k ≤ l)
@@ -130,63 +127,41 @@ storing (EndSum x) a n e = absurd (false≢true (ap is_storing e))
 storing (Accepted x) a n e = absurd (false≢true (ap is_storing e))
 storing (Refused x) a n e = absurd (false≢true (ap is_storing e))
 
--- the loop at a place of the piece p: the reader r and the memory m of now
-pub record Feeding (l : ℕ) (r₀ : Reader) (p m₀ : List ℕ) (r : Reader) (m : List ℕ) (at : ℕ) : Type 0 where
-  pub within : at ≤ length p
+-- the loop, where s is left of the piece p: the reader r and the memory m of now
+pub record Feeding (l : ℕ) (r₀ : Reader) (p m₀ : List ℕ) (r : Reader) (m s : List ℕ) : Type 0 where
   pub room : l ≤ 2 * length m
   pub long : length m ≡ length m₀
-  pub state : read l r (drop at p) ≡ read l r₀ p
-  pub memory : fill l r (drop at p) m ≡ fill l r₀ p m₀
+  pub state : read l r s ≡ read l r₀ p
+  pub memory : fill l r s m ≡ fill l r₀ p m₀
 
-pub feed_begins : (l : ℕ) (r : Reader) (p m : List ℕ) → l ≤ 2 * length m → Feeding l r p m r m 0
-feed_begins l r p m h = record { within = omega arith; room = h; long = refl; state = refl; memory = refl }
+pub feed_begins : (l : ℕ) (r : Reader) (p m : List ℕ) → l ≤ 2 * length m → Feeding l r p m r m p
+feed_begins l r p m h = record { room = h; long = refl; state = refl; memory = refl }
 
-pub feed_ready : {l : ℕ} {r₀ : Reader} {p m₀ : List ℕ} {r : Reader} {m : List ℕ} {at : ℕ} → Feeding l r₀ p m₀ r m at → l ≤ 65536 → at < length p
-    → decided r ≡ false → Ready l r (take (length p - at) (drop at p)) m
-feed_ready {l} {r₀} {p} {m₀} {r} {m} {at} c k h d =
-    record { room = c.room; small = k; some = rw (rest-is at p) (omega (arith, length-drop at p)); undecided = d }
+pub feed_ready : {l : ℕ} {r₀ : Reader} {p m₀ : List ℕ} {r : Reader} {m s : List ℕ} → Feeding l r₀ p m₀ r m s → l ≤ 65536 → 0 < length s
+    → decided r ≡ false → Ready l r s m
+feed_ready c k h d = record { room = c.room; small = k; some = h; undecided = d }
 
-pub feed_takes : {l : ℕ} {r₀ : Reader} {p m₀ : List ℕ} {r : Reader} {m : List ℕ} {at n : ℕ} {r' : Reader} {m' : List ℕ} → Feeding l r₀ p m₀ r m at
-    → Took l r (take (length p - at) (drop at p)) m n r' m' → (0 < n) × (at + n ≤ length p)
-feed_takes {l} {r₀} {p} {m₀} {r} {m} {at} {n} {r'} {m'} c t =
-    let w = (rw (rest-is at p) at t).within in
-    (t.some, omega (arith, c.within, length-drop at p))
-
-pub feed_goes : {l : ℕ} {r₀ : Reader} {p m₀ : List ℕ} {r : Reader} {m : List ℕ} {at n : ℕ} {r' : Reader} {m' : List ℕ} → Feeding l r₀ p m₀ r m at
-    → Took l r (take (length p - at) (drop at p)) m n r' m' → length m' ≡ length m → Feeding l r₀ p m₀ r' m' (at + n)
-feed_goes {l} {r₀} {p} {m₀} {r} {m} {at} {n} {r'} {m'} c t k =
-    let s = drop at p in
-    let u : r' ≡ read l r (take n s) = (rw (rest-is at p) at t).state in
-    let v : m' ≡ fill l r (take n s) m = (rw (rest-is at p) at t).memory in
+pub feed_goes : {l : ℕ} {r₀ : Reader} {p m₀ : List ℕ} {r : Reader} {m s : List ℕ} {n : ℕ} {r' : Reader} {m' : List ℕ} → Feeding l r₀ p m₀ r m s
+    → Took l r s m n r' m' → length m' ≡ length m → Feeding l r₀ p m₀ r' m' (take (length s - n) (drop n s))
+feed_goes {l} {r₀} {p} {m₀} {r} {m} {s} {n} {r'} {m'} c t k =
+    let u : r' ≡ read l r (take n s) = t.state in
+    let v : m' ≡ fill l r (take n s) m = t.memory in
     let a = read-append l r (take n s) (drop n s) in
     let b = fill-append l r (take n s) (drop n s) m in
-    let d : drop (at + n) p ≡ drop n s = sym (drop-drop n at p) in
     record {
-      within = (feed_takes c t).1;
       room = omega (arith, c.room, k);
       long = k ∙ c.long;
-      state = rw (d, u) (sym (rw (take-append-drop n s) at a)) ∙ c.state;
-      memory = rw (d, u, v) (sym (rw (take-append-drop n s) at b)) ∙ c.memory;
+      state = rw (rest-is n s, u) (sym (rw (take-append-drop n s) at a)) ∙ c.state;
+      memory = rw (rest-is n s, u, v) (sym (rw (take-append-drop n s) at b)) ∙ c.memory;
     }
 
-pub feed_ends : {l : ℕ} {r₀ : Reader} {p m₀ : List ℕ} {r : Reader} {m : List ℕ} {at : ℕ} → Feeding l r₀ p m₀ r m at → l ≡ limit m₀ → length p ≤ at
+pub feed_ends : {l : ℕ} {r₀ : Reader} {p m₀ : List ℕ} {r : Reader} {m s : List ℕ} → Feeding l r₀ p m₀ r m s → l ≡ limit m₀ → length s ≡ 0
     → (r ≡ read (limit m₀) r₀ p) × (m ≡ fill (limit m₀) r₀ p m₀)
 unfolding read fill
-feed_ends {l} {r₀} {p} {m₀} {r} {m} {at} c e h =
-    let s = c.state in
-    let w = c.memory in
-    rw (← e) (rw (drop_of_length-le p h) at s, rw (drop_of_length-le p h) at w)
+feed_ends {s = []} c e h = rw (← e) (c.state, c.memory)
+feed_ends {s = b ∷ bs} c e h = absurd (omega arith)
 
-pub feed_decided : {l : ℕ} {r₀ : Reader} {p m₀ : List ℕ} {r : Reader} {m : List ℕ} {at : ℕ} → Feeding l r₀ p m₀ r m at → l ≡ limit m₀
+pub feed_decided : {l : ℕ} {r₀ : Reader} {p m₀ : List ℕ} {r : Reader} {m s : List ℕ} → Feeding l r₀ p m₀ r m s → l ≡ limit m₀
     → decided r ≡ true → (r ≡ read (limit m₀) r₀ p) × (m ≡ fill (limit m₀) r₀ p m₀)
-feed_decided {l} {r₀} {p} {m₀} {r} {m} {at} c e h =
-    rw (← e) (sym (read_stays l r (drop at p) h) ∙ c.state, sym (fill_stays l r (drop at p) m h) ∙ c.memory)
-
--- what the loop's second test tells
-pub is-undecided : (d t : Bool) → t ≡ not d → t ≡ true → d ≡ false
-is-undecided true t e h = absurd (false≢true (sym e ∙ h))
-is-undecided false t e h = refl
-
-pub is-decided : (d t : Bool) → t ≡ not d → t ≡ false → d ≡ true
-is-decided true t e h = refl
-is-decided false t e h = absurd (true≢false (sym e ∙ h))
+feed_decided {l} {r₀} {p} {m₀} {r} {m} {s} c e h =
+    rw (← e) (sym (read_stays l r s h) ∙ c.state, sym (fill_stays l r s m h) ∙ c.memory)

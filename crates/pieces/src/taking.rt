@@ -1,11 +1,11 @@
 // What a turn of the reader takes of a piece: the data bytes that are there of a block, stored in a row; a whole header; or one byte.
-ghost use Rattle.std.specs.Prelude.{◌≡◌, false, ◌+◌, ◌≤◌, ◌<◌, min, length, get_or};
+ghost use Rattle.std.specs.Prelude.{◌≡◌, false, ◌+◌, ◌≤◌, ◌<◌, length, get_or, IfSome};
 ghost use Rattle.loadsteps.specs.Step.{role_of, is_data, decided, next};
 ghost use Rattle.pieces.specs.Turns.{run_length, behind, DataHeader, behind_header, Ready, PassedOver, Took};
 ghost use Rattle.loadsteps.specs.declared.Phase.TheVariants.{Start};
 
 use loads::memory::{put_bytes, sum_of};
-use loadsteps::steps::{pair, role_of, step, up_by};
+use loadsteps::steps::up_by;
 use loadsteps::{Phase, Reader, Role};
 
 // How many bytes a turn took, and the reader behind them.
@@ -15,26 +15,16 @@ pub(crate) struct Turn {
     pub(crate) count: usize,
 }
 
-fn lesser(a: usize, b: usize) -> usize
-    ensures { result ≡ min a b }
-{
-    if a < b {
-        return a;
-    }
-    b
-}
-
 // How many of the next bytes are data that the memory has a place for.
+#[tactic(auto, unfolding(crate::specs::Turns::run_length))]
 fn run_of(size: usize, address: usize, left: usize, bytes: usize) -> usize
     ensures { result ≡ run_length size address left bytes }
 {
-    if size < address {
-        return 0;
-    }
-    lesser(bytes, lesser(left, size - address))
+    bytes.min(left).min(size.saturating_sub(address))
 }
 
 // The reader behind data bytes, which `left` were due of, from the address on.
+#[tactic(auto, unfolding(crate::specs::Turns::behind))]
 fn past(reader: Reader, address: usize, left: usize, bytes: &[u8]) -> Reader
     requires { (address + length bytes.now ≤ 65536) × (length bytes.now ≤ left) }
     ensures { result ≡ behind reader address left bytes.now }
@@ -42,7 +32,7 @@ fn past(reader: Reader, address: usize, left: usize, bytes: &[u8]) -> Reader
     let count = bytes.len();
     Reader {
         phase: Phase::Data(address + count, left - count),
-        sum: ((reader.sum as usize + sum_of(bytes)) % 256) as u8,
+        sum: reader.sum.wrapping_add(sum_of(bytes)),
         stored: up_by(reader.stored, count),
         offset: up_by(reader.offset, count),
     }
@@ -54,44 +44,38 @@ fn one(reader: Reader, rest: &[u8], size: usize) -> Turn
     ensures { (result.count ≡ 1) × (result.reader ≡ next size reader (get_or rest.now 0 0)) }
 {
     Turn {
-        reader: step(size, reader, rest[0]),
+        reader: reader.step(size, rest[0]),
         count: 1,
     }
 }
 
-// How many data bytes a header announces that stands first, whole, and whose data have their places; 0 where none does.
-fn announced(size: usize, rest: &[u8]) -> usize
-    ensures { 0 < result → DataHeader size result rest.now }
+// How many data bytes a header announces that stands first, whole, and whose data have their places.
+#[tactic(auto, unfolding(loads::specs::Blocks::count_of, loads::specs::Blocks::address_of, loads::specs::Blocks::pair_at))]
+fn announced(size: usize, rest: &[u8]) -> Option<usize>
+    ensures { IfSome result (λ n. DataHeader size n rest.now) }
 {
-    if rest.len() < 6 {
-        return 0;
+    let [1, 0, low, high, address_low, address_high, ..] = rest else {
+        return None;
+    };
+    let count = u16::from_le_bytes([*low, *high]) as usize;
+    let address = u16::from_le_bytes([*address_low, *address_high]) as usize;
+    if count <= 6 || size < address + (count - 6) {
+        return None;
     }
-    if rest[0] != 1 {
-        return 0;
-    }
-    if rest[1] != 0 {
-        return 0;
-    }
-    let count = pair(rest[2], rest[3]) as usize;
-    if count < 6 {
-        return 0;
-    }
-    if size < pair(rest[4], rest[5]) as usize + (count - 6) {
-        return 0;
-    }
-    count - 6
+    Some(count - 6)
 }
 
 // The reader behind a header, which `count` data bytes follow.
+#[tactic(auto, unfolding(crate::specs::Turns::behind_header, loads::specs::Blocks::address_of, loads::specs::Blocks::pair_at))]
 fn past_header(reader: Reader, count: usize, rest: &[u8]) -> Reader
     requires { 6 ≤ length rest.now }
     ensures { result ≡ behind_header reader count rest.now }
 {
     Reader {
-        phase: Phase::Data(pair(rest[4], rest[5]) as usize, count),
-        sum: ((reader.sum as usize + sum_of(&rest[0..6])) % 256) as u8,
-        stored: reader.stored,
+        phase: Phase::Data(u16::from_le_bytes([rest[4], rest[5]]) as usize, count),
+        sum: reader.sum.wrapping_add(sum_of(&rest[0..6])),
         offset: up_by(reader.offset, 6),
+        ..reader
     }
 }
 
@@ -100,13 +84,12 @@ fn open_block(reader: Reader, rest: &[u8], size: usize) -> Turn
     requires { (size ≤ 65536) × (0 < length rest.now) × (reader.phase ≡ Start) }
     ensures { PassedOver size reader rest.now result.count result.reader }
 {
-    let count = announced(size, rest);
-    if count == 0 {
-        return one(reader, rest, size);
-    }
-    Turn {
-        reader: past_header(reader, count, rest),
-        count: 6,
+    match announced(size, rest) {
+        Some(count) => Turn {
+            reader: past_header(reader, count, rest),
+            count: 6,
+        },
+        None => one(reader, rest, size),
     }
 }
 
@@ -115,20 +98,19 @@ fn pass(reader: Reader, rest: &[u8], size: usize) -> Turn
     requires { (size ≤ 65536) × (0 < length rest.now) × (decided reader ≡ false) × (is_data size (role_of reader.phase) ≡ false) }
     ensures { PassedOver size reader rest.now result.count result.reader }
 {
-    let phase = reader.phase;
-    if let Phase::Start = phase {
-        return open_block(reader, rest, size);
+    match reader.phase {
+        Phase::Start => open_block(reader, rest, size),
+        _ => one(reader, rest, size),
     }
-    one(reader, rest, size)
 }
 
 // All data bytes that are there of a block, or other bytes.
+#[tactic(auto, using(crate::proofs::Turns::storing, crate::proofs::Turns::run_took, crate::proofs::Turns::one_took, crate::proofs::Turns::passed_took, crate::proofs::Turns::no_run, crate::proofs::Turns::run_fits, crate::proofs::Turns::run_long, crate::proofs::Turns::positive))]
 pub(crate) fn take_some(reader: Reader, rest: &[u8], size: usize, words: &mut [u16]) -> Turn
     requires { Ready size reader rest.now words.old }
     ensures { Took size reader rest.now words.old result.count result.reader words.new }
 {
-    let phase = reader.phase;
-    match role_of(phase) {
+    match reader.phase.role() {
         Role::Passing => pass(reader, rest, size),
         Role::Storing(address, left) => {
             let run = run_of(size, address, left, rest.len());
@@ -141,7 +123,6 @@ pub(crate) fn take_some(reader: Reader, rest: &[u8], size: usize, words: &mut [u
                 count: run,
             }
         }
-        Role::Accepted(_) => one(reader, rest, size),
-        Role::Refused(_) => one(reader, rest, size),
+        Role::Accepted(_) | Role::Refused(_) => one(reader, rest, size),
     }
 }

@@ -73,8 +73,8 @@ fn put_inserted(
 }
 
 // A segment with these entries.
-pub fn plain_segment(header: &[u16], words: &[u16]) -> [u16; 512]
-    requires { (length header.now ≡ 5) × (5 + length words.now < 512) }
+pub fn plain_segment(header: &[u16; 5], words: &[u16]) -> [u16; 512]
+    requires { 5 + length words.now < 512 }
     ensures { result ≡ rendered_words header.now words.now }
 {
     let mut out = [0u16; 512];
@@ -86,14 +86,13 @@ pub fn plain_segment(header: &[u16], words: &[u16]) -> [u16; 512]
 
 // A segment with these entries and the new one.
 pub fn inserted_segment(
-    header: &[u16],
+    header: &[u16; 5],
     words: &[u16],
     word: usize,
     cost: usize,
     new: &[u16],
 ) -> [u16; 512]
-    requires { (length header.now ≡ 5) × Inserting words.now word cost new.now
-        × (5 + length (inserted_words word cost new.now words.now) < 512) }
+    requires { Inserting words.now word cost new.now × (5 + length (inserted_words word cost new.now words.now) < 512) }
     ensures { result ≡ rendered_words header.now (inserted_words word cost new.now words.now) }
 {
     let mut out = [0u16; 512];

@@ -4,6 +4,7 @@ ghost use Rattle.meaning.specs.Words.{slots, upto, chunks, total};
 ghost use Rattle.segment.specs.Count.{Counted};
 ghost use Rattle.render.specs.Halves.{KeptOf};
 
+use segment::entry::Entry;
 use segment::kinds;
 
 // How many entries a split keeps: half of them, and one more if the last of these is tentative, so that its area stays with it.
@@ -12,14 +13,11 @@ pub fn count_kept(segment: &[u16], width: usize, count: usize) -> usize
     ensures { KeptOf result (upto (slots width segment.now)) }
 {
     let half = count / 2;
-    if half == 0 {
-        return 0;
+    if 0 < half && kinds::is_tentative(segment[5 + (half - 1) * width]) {
+        half + 1
+    } else {
+        half
     }
-    let last = 5 + (half - 1) * width;
-    if kinds::is_tentative(segment[last]) {
-        return half + 1;
-    }
-    half
 }
 
 // The blocks of the first entries of a segment. The sum is a usize, so that it is exact.
@@ -28,12 +26,8 @@ pub fn sum_lengths(segment: &[u16], width: usize, count: usize) -> usize
     ensures { result ≡ total (chunks count width (drop 5 segment.now)) }
 {
     let mut sum: usize = 0;
-    let mut left: usize = count;
-    let mut word: usize = 5;
-    while 0 < left {
-        sum += segment[word + 4] as usize;
-        word += width;
-        left -= 1;
+    for words in segment[5..5 + count * width].chunks_exact(width) {
+        sum += Entry::new(words).blocks() as usize;
     }
     sum
 }

@@ -11,7 +11,18 @@ ghost use Rattle.requests.specs.Records.{on_file};
 pub use door::{fault, fresh, lookup, serve};
 use meaning::{Answer, Name, Op, Request};
 
-// The name of a request that has no use for one.
+// A request with no use for any field. Each call below says the fields that its own request reads.
+const BLANK: Request = Request {
+    op: Op::Lookup,
+    name: NO_NAME,
+    new_name: NO_NAME,
+    job: 0,
+    channel: 0,
+    size: 0,
+    final_length: 0,
+    date: 0,
+};
+
 const NO_NAME: Name = Name {
     first: 0,
     second: 0,
@@ -19,6 +30,7 @@ const NO_NAME: Name = Name {
 };
 
 // A request on a file, by its name alone.
+#[tactic(auto, unfolding(meaning::specs::Batch::serve))]
 fn on_file(d: &mut [u16], v: usize, op: Op, name: Name) -> Answer
     ensures { Meets result d.new (serve_by op v d.old (on_file op name)) }
 {
@@ -29,11 +41,7 @@ fn on_file(d: &mut [u16], v: usize, op: Op, name: Name) -> Answer
             op,
             name,
             new_name: name,
-            job: 0,
-            channel: 0,
-            size: 0,
-            final_length: 0,
-            date: 0,
+            ..BLANK
         },
     )
 }
@@ -57,6 +65,7 @@ pub fn unprotect(d: &mut [u16], v: usize, name: Name) -> Answer
     on_file(d, v, Op::Unprotect, name)
 }
 
+#[tactic(auto, unfolding(meaning::specs::Batch::serve))]
 pub fn rename(d: &mut [u16], v: usize, old: Name, new: Name) -> Answer
     ensures { Meets result d.new (rename v d.old old new) }
 {
@@ -67,15 +76,12 @@ pub fn rename(d: &mut [u16], v: usize, old: Name, new: Name) -> Answer
             op: Op::Rename,
             name: old,
             new_name: new,
-            job: 0,
-            channel: 0,
-            size: 0,
-            final_length: 0,
-            date: 0,
+            ..BLANK
         },
     )
 }
 
+#[tactic(auto, unfolding(meaning::specs::Batch::serve))]
 pub fn abandon(d: &mut [u16], v: usize, job: u16, channel: u16) -> Answer
     ensures { Meets result d.new (abandon v d.old job channel) }
 {
@@ -84,13 +90,9 @@ pub fn abandon(d: &mut [u16], v: usize, job: u16, channel: u16) -> Answer
         v,
         Request {
             op: Op::Abandon,
-            name: NO_NAME,
-            new_name: NO_NAME,
             job,
             channel,
-            size: 0,
-            final_length: 0,
-            date: 0,
+            ..BLANK
         },
     )
 }
@@ -103,13 +105,10 @@ pub fn close(d: &mut [u16], v: usize, job: u16, channel: u16, final_length: i32)
         v,
         Request {
             op: Op::Close,
-            name: NO_NAME,
-            new_name: NO_NAME,
             job,
             channel,
-            size: 0,
             final_length,
-            date: 0,
+            ..BLANK
         },
     )
 }
@@ -132,12 +131,11 @@ pub fn enter(
         Request {
             op: Op::Enter,
             name,
-            new_name: name,
             job,
             channel,
             size,
-            final_length: 0,
             date,
+            ..BLANK
         },
     )
 }

@@ -5,5 +5,4 @@ pub mod Searching
 pub mod Ahead
 pub mod Writes
 pub mod Moves
-pub mod Looking
 pub mod Passing

@@ -1,13 +1,11 @@
--- Words written before others that were written already, as one write of both lists: so words moved up, the last first, are one write of
--- them; and so are words made 0, the first first. Assumes nothing.
-use Prim.Native.Nat.{ℕ, zero, suc, ◌+◌, ◌-◌, ◌≤◌, ◌<◌}
+-- Words written before others that were written already, as one write of both lists; and the words that a write keeps. Assumes nothing.
+use Prim.Native.Nat.{ℕ, zero, suc, ◌+◌, ◌≤◌, ◌<◌}
 use native.Mathlib.Omega.{arith}
-use mathlib.Core.Path.{◌≡◌, refl, sym, ap, ◌∙◌}
+use mathlib.Core.Path.{◌≡◌, refl, ap, ◌∙◌}
 use mathlib.Core.List.{List, [], ◌∷◌, ◌++◌, append_assoc}
-use lib.ListN.{length, get_or, take, drop, set, replicate, length-append, length-set, get_or-append}
-use lib.Seq.{length-take-le, take-append-le, take-take, drop_at, drop-cons, get_or-take, set_split}
+use lib.ListN.{length, get_or, take, drop, replicate, length-append, get_or-append}
+use lib.Seq.{length-take-le, take-append-le, take-take, drop_at, get_or-take}
 use Rattle.segment.specs.Written.{Written}
-use Rattle.segment.proofs.Writes.{none_written, one_written, both_written}
 
 -- what was written, with the words before it and after it
 module _ {b l a : List ℕ} {q z : ℕ} (h : q ≤ length b) (u : Written b q l a z) where
@@ -47,55 +45,7 @@ prior_written b k m l a q y z h u v =
       long = v.long ∙ u.long;
     }
 
--- one word written before those
-pub one-before : (b l a : List ℕ) (q z x : ℕ) → q < length b → Written b (suc q) l a z → Written b q (x ∷ l) (set a q x) z
-one-before b l a q z x h u =
-    let e : suc q + length l ≡ q + suc (length l) = omega arith in
-    record {
-      words =
-          set_split a q x (omega (arith, u.long))
-          ∙ rw (before-kept (omega arith) u q (omega arith), from-there (omega arith) u, e)
-          (sym (append_assoc (take q b) (x ∷ l) (drop (q + suc (length l)) b)));
-      next = u.next ∙ e;
-      long = length-set a q x ∙ u.long;
-    }
-
--- a turn of the move, as code counts
-moved-suc : (b a : List ℕ) (j end by : ℕ) → suc j ≤ end → end + by ≤ length b
-    → Written b (suc j + by) (take (end - suc j) (drop (suc j) b)) a (end + by)
-    → Written b (j + by) (take (end - j) (drop j b)) (set a (j + by) (get_or a j 0)) (end + by)
-moved-suc b a j end by h k u =
-    let q : suc j + by ≡ suc (j + by) = omega arith in
-    let n : end - j ≡ suc (end - suc j) = omega arith in
-    let v : Written b (suc (j + by)) (take (end - suc j) (drop (suc j) b)) a (end + by) = rw q at u in
-    rw (n, drop-cons b j 0 (omega arith), word_kept (omega arith) v j (omega arith))
-    (one-before b (take (end - suc j) (drop (suc j) b)) a (j + by) (end + by) (get_or b j 0) (omega arith) v)
-
-pub moved_more : (b a : List ℕ) (i end by : ℕ) → 0 < i → i ≤ end → end + by ≤ length b
-    → Written b (i + by) (take (end - i) (drop i b)) a (end + by)
-    → Written b (i - 1 + by) (take (end - (i - 1)) (drop (i - 1) b)) (set a (i - 1 + by) (get_or a (i - 1) 0)) (end + by)
-moved_more b a zero end by p h k u = absurd (omega arith)
-moved_more b a (suc j) end by p h k u = let e : suc j - 1 ≡ j = omega arith in rw e (moved-suc b a j end by h k u)
-
-pub moved_none : (b : List ℕ) (end by : ℕ) → Written b (end + by) (take (end - end) (drop end b)) b (end + by)
-moved_none b end by = let e : end - end ≡ 0 = omega arith in rw e (none_written b (end + by))
-
 -- a turn of the clearing
 zeros_more : (n : ℕ) → ◌≡◌ {A = List ℕ} (replicate n 0 ++ (0 ∷ [])) (replicate (suc n) 0)
 zeros_more zero = refl
 zeros_more (suc n) = ap {B = List ℕ} (λ l. 0 ∷ l) (zeros_more n)
-
-pub cleared_more : (b a : List ℕ) (start i : ℕ) → start ≤ i → i < length b → Written b start (replicate (i - start) 0) a i
-    → Written b start (replicate (i + 1 - start) 0) (set a i 0) (i + 1)
-cleared_more b a start i h k u =
-    let e : i + 1 - start ≡ suc (i - start) = omega arith in
-    rw (e, ← zeros_more (i - start))
-    (both_written b (replicate (i - start) 0) a (0 ∷ []) (set a i 0) start i (i + 1) (omega arith) u
-    (one_written a i 0 (omega (arith, u.long))))
-
-pub cleared_none : (b : List ℕ) (start : ℕ) → Written b start (replicate (start - start) 0) b start
-cleared_none b start = let e : start - start ≡ 0 = omega arith in rw e (none_written b start)
-
-pub cleared_all : (b a : List ℕ) (start i : ℕ) → i ≤ length b → length a ≤ i → Written b start (replicate (i - start) 0) a i
-    → Written b start (replicate (length b - start) 0) a (length b)
-cleared_all b a start i h k u = let e : length b ≡ i = omega (arith, u.long) in rw e u

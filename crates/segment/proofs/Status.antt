@@ -3,13 +3,13 @@
 -- Assumes nothing.
 use Prim.Native.Nat.{ℕ}
 use mathlib.Core.Path.{◌≡◌, refl}
-use mathlib.Core.Bool.{Bool, true, false, cond, not, true≢false}
+use mathlib.Core.Bool.{Bool, true, false, cond}
 use lib.Dec.{eqb}
 use borrow.Author.Tests.{ne_eqb, eqb-true, eqb-false}
 use Rattle.meaning.specs.declared.Kind.{Kind}
 use Rattle.meaning.specs.declared.Kind.TheVariants.{Tentative, Empty, Permanent, End, Unknown}
 use Rattle.meaning.specs.Kinds.{tentative_status, empty_status, permanent_status, protected_status, end_status, kind_of}
-use Rattle.meaning.specs.Kinds.{is_tentative, is_empty, is_permanent, is_end, is_unknown}
+use Rattle.meaning.specs.Kinds.{is_tentative, is_empty, is_permanent, is_end}
 
 pub tentative-is : (x : ℕ) → x ≡ tentative_status → is_tentative (kind_of x) ≡ true
 unfolding kind_of
@@ -97,11 +97,3 @@ protected-eqb x h = go (eqb x protected_status) refl
 
 pub end-eqb : (x : ℕ) → is_end (kind_of x) ≡ eqb x end_status
 end-eqb = by_number is_end end_status end_is end-not
-
--- a kind that only the test of the marker is left to tell
-pub unknown_left : (k : Kind) → is_permanent k ≡ false → is_empty k ≡ false → is_tentative k ≡ false → not (is_end k) ≡ is_unknown k
-unknown_left Tentative p e t = absurd (true≢false t)
-unknown_left Empty p e t = absurd (true≢false e)
-unknown_left Permanent p e t = absurd (true≢false p)
-unknown_left End p e t = refl
-unknown_left Unknown p e t = refl

@@ -1,32 +1,17 @@
 -- Words written into a list, one write after another. A write leaves what stands before and after it, so two that follow each
 -- other are one write of both lists; a copy, word by word, is a write of what is copied; and what is written into zeros from their
 -- start is followed by zeros. Assumes nothing.
-use Prim.Native.Nat.{ℕ, suc, ◌+◌, ◌-◌, ◌≤◌, ◌<◌}
+use Prim.Native.Nat.{ℕ, suc, ◌+◌, ◌≤◌, ◌<◌}
 use native.Mathlib.Nat.{zero-add, suc-add}
 use native.Mathlib.Numerals.{add-one}
 use native.Mathlib.Omega.{arith}
 use mathlib.Core.Path.{◌≡◌, refl, sym, ap, ◌∙◌}
-use mathlib.Core.List.{List, [], ◌∷◌, ◌++◌, append_assoc, append-nil}
-use lib.ListN.{length, get_or, take, drop, set, replicate, drop_of_length-le, length-set, length-append, length-drop}
-use lib.Seq.{paste, paste-zero, paste-suc, length-paste, take-length, length-take-le}
+use mathlib.Core.List.{List, [], ◌∷◌, ◌++◌, append_assoc}
+use lib.ListN.{length, take, drop, set, replicate, length-set, length-append, length-drop}
+use lib.Seq.{paste, paste-zero, length-paste, take-length, length-take-le}
 use lib.Seq.{set-append_left, set_split}
 use Rattle.walks.proofs.Words.{drop_zeros, cut_zeros, both_put}
 use Rattle.segment.specs.Written.{Written}
-
--- a turn of the copy, and its end
-pub copied_more : (b t : List ℕ) (q : ℕ) (s : List ℕ) (i : ℕ) → t ≡ paste b q s i → q + i < length b → i < length s
-    → set t (q + i) (get_or s i 0) ≡ paste b q s (i + 1)
-copied_more b t q s i e h g = rw (e, add-one) (paste-suc b q s i 0 h g)
-
-pub copied_all : (b t : List ℕ) (q : ℕ) (s : List ℕ) (i : ℕ) → t ≡ paste b q s i → i ≤ length s → length s ≤ i
-    → t ≡ paste b q s (length s)
-copied_all b t q s i e l h = let f : length s ≡ i = omega arith in rw f e
-
--- a list copied over one as long
-pub copied-whole : (g o : List ℕ) → length o ≡ length g → paste g 0 o (length o) ≡ o
-copied-whole g o m =
-    let d : drop (0 + length o) g ≡ [] = drop_of_length-le g {i = 0 + length o} (omega arith) in
-    rw (take-length o, d) (append-nil o)
 
 -- a copy is a write
 pub pasted : (b a s : List ℕ) (q : ℕ) → q + length s ≤ length b → a ≡ paste b q s (length s) → Written b q s a (q + length s)
@@ -56,18 +41,6 @@ both_written b l m k a q y z h u v = record {
   next = v.next ∙ omega (arith, u.next, length-append l k);
   long = v.long ∙ u.long;
 }
-
--- a slot copied as it is
-pub slot-written : (g b a : List ℕ) (w p q : ℕ) → p + w ≤ length g → q + w ≤ length b
-    → a ≡ paste b q (take (p + w - p) (drop p g)) (length (take (p + w - p) (drop p g)))
-    → Written b q (take w (drop p g)) a (q + w)
-slot-written g b a w p q hp hq e =
-    let s : List ℕ = take w (drop p g) in
-    let k : p + w - p ≡ w = omega arith in
-    let j : length s ≡ w = length-take-le w (drop p g) (simp length-drop (omega arith)) in
-    let f : a ≡ paste b q s (length s) = rw k at e in
-    let u = pasted b a s q (omega arith) f in
-    record { words = u.words; next = rw j refl; long = u.long }
 
 pub set-add : (xs ys : List ℕ) (n x : ℕ) → set (xs ++ ys) (length xs + n) x ≡ xs ++ set ys n x
 set-add [] ys n x = rw (zero-add n)

@@ -6,6 +6,7 @@ ghost use Rattle.segment.specs.Finder.{FoundIn};
 use crate::entries::entries_of;
 use crate::entry::Entry;
 use crate::kinds;
+use crate::naming::is_named;
 use meaning::Key;
 
 // Where an entry stands: its segment and slot, both counted from 1, the place of its first word in the directory, and its first
@@ -24,11 +25,11 @@ pub struct Place {
 // Whether an entry is of the key; the first test that fails decides. A file is asked for its name first, which differs nearly always in its
 // first word, whereas files and areas may alternate; and then for its kind, since a tentative entry may have the same name. A channel is
 // asked for its kind first: the channel word of a permanent entry means nothing.
-pub fn is_keyed(entry: &Entry<'_>, key: Key) -> bool
+pub fn slot_keyed(entry: &Entry<'_>, key: Key) -> bool
     ensures { result ≡ holds key entry.now.words.now }
 {
     match key {
-        Key::File(name) => entry.name() == name && kinds::is_permanent(entry.status()),
+        Key::File(name) => is_named(entry, name) && kinds::is_permanent(entry.status()),
         Key::Open(channel) => kinds::is_tentative(entry.status()) && entry.channel() == channel,
     }
 }
@@ -50,7 +51,7 @@ pub fn find_in(
     let mut at: usize = base + 5;
     let mut block: usize = first;
     for entry in entries_of(segment, width) {
-        if is_keyed(&entry, key) {
+        if slot_keyed(&entry, key) {
             return Some(Place {
                 seg: number,
                 slot,

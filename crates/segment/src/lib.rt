@@ -9,4 +9,5 @@ pub mod entries;
 pub mod entry;
 pub mod finder;
 pub mod kinds;
+pub mod naming;
 pub mod scan;

@@ -18,8 +18,8 @@ const PRIME: u32 = 65521;
 // One more than the sum of the numbers; and the sum of all that this came to on the way, by which their order counts.
 #[derive(Clone, Copy)]
 struct Sum {
-    pub low: u16,
-    pub high: u16,
+    low: u16,
+    high: u16,
 }
 
 fn add(x: u16, y: u16) -> u16 {
@@ -40,11 +40,7 @@ impl Sum {
     }
 
     fn with_bytes(self, bytes: &[u8]) -> Sum {
-        let mut sum = self;
-        for i in 0..bytes.len() {
-            sum = sum.with(bytes[i] as u16);
-        }
-        sum
+        bytes.iter().fold(self, |sum, b| sum.with(*b as u16))
     }
 
     fn value(self) -> u64 {
@@ -68,14 +64,13 @@ fn octal_digit(n: u16) -> u8 {
 fn octal(word: u16) -> [u8; 6]
     ensures { 6 ≡ length result }
 {
-    [
-        octal_digit(word / 32768),
-        octal_digit(word / 4096),
-        octal_digit(word / 512),
-        octal_digit(word / 64),
-        octal_digit(word / 8),
-        octal_digit(word),
-    ]
+    let mut digits = [b'0'; 6];
+    let mut rest = word;
+    for digit in digits.iter_mut().rev() {
+        *digit = octal_digit(rest);
+        rest /= 8;
+    }
+    digits
 }
 
 // Nine bytes: one, five spaces, and a group of three.
@@ -85,9 +80,7 @@ fn text_with(start: u8, group: &[u8]) -> [u8; 9]
 {
     let mut text = [b' '; 9];
     text[0] = start;
-    text[6] = group[0];
-    text[7] = group[1];
-    text[8] = group[2];
+    text[6..].copy_from_slice(group);
     text
 }
 
@@ -104,10 +97,7 @@ fn word_of_group(group: &[u8]) -> u16
 fn is_spelled_back(word: u16, group: &[u8]) -> bool
     requires { 3 ≡ length group.now }
 {
-    let spelled = text_of_words(0, 0, word);
-    let text = spelled.text;
-    let expected = text_with(b' ', group);
-    text == expected
+    text_of_words(0, 0, word).text == text_with(b' ', group)
 }
 
 // Writes the formula's word where the scan has one, and answers whether the two agree. What the scan lacks can't differ.
@@ -122,10 +112,7 @@ fn show_group(rt: &impl Print, group: &[u8], scanned: &[u8]) -> bool
     let digits = octal(word);
     show(rt, b" ");
     show(rt, &digits);
-    if digits.as_slice() != scanned {
-        return false;
-    }
-    is_spelled_back(word, group)
+    digits.as_slice() == scanned && is_spelled_back(word, group)
 }
 
 // All three words are written before any is judged.
@@ -135,13 +122,7 @@ fn show_groups(rt: &impl Print, row: &[u8]) -> bool
     let first = show_group(rt, &row[0..3], &row[10..16]);
     let second = show_group(rt, &row[3..6], &row[17..23]);
     let third = show_group(rt, &row[6..9], &row[24..30]);
-    if !first {
-        return false;
-    }
-    if !second {
-        return false;
-    }
-    third
+    first && second && third
 }
 
 fn show_row(rt: &impl Print, row: &[u8])
@@ -157,10 +138,8 @@ fn show_row(rt: &impl Print, row: &[u8])
 
 // A row that is cut off at the end is not shown, and so the output lacks a line.
 fn show_rows(rt: &impl Print, rows: &[u8]) {
-    let mut at = 0;
-    while 31 <= rows.len() - at {
-        show_row(rt, &rows[at..at + 31]);
-        at += 31;
+    for row in rows.chunks_exact(31) {
+        show_row(rt, row);
     }
 }
 
@@ -190,8 +169,7 @@ const SHORTEST: [u8; 9] = *b"A        ";
 
 fn with_spelling(sum: Sum, first: u16, second: u16, extension: u16) -> Sum {
     let spelled = text_of_words(first, second, extension);
-    let text = spelled.text;
-    sum.with(spelled.number).with_bytes(&text)
+    sum.with(spelled.number).with_bytes(&spelled.text)
 }
 
 // Every word in each of the three places.
@@ -231,41 +209,24 @@ fn with_words(sum: Sum, text: &[u8; 9]) -> Sum {
         .with(words.extension)
 }
 
-// Every second byte after this first one, at two places of the base.
-fn with_second_bytes(start: Sum, base: &[u8; 9], at: usize, first: u8) -> Sum
-    requires { at < 8 }
-{
-    let mut sum = start;
-    let mut text = *base;
-    text[at] = first;
-    for second in 0..=255 {
-        text[at + 1] = second;
-        sum = with_words(sum, &text);
-    }
-    sum
-}
-
-fn with_pairs(start: Sum, base: &[u8; 9], at: usize) -> Sum
-    requires { at < 8 }
-{
-    let mut sum = start;
-    for first in 0..=255 {
-        sum = with_second_bytes(sum, base, at, first);
-    }
-    sum
-}
-
-fn with_places(start: Sum, base: &[u8; 9]) -> Sum {
+// Every pair of bytes at every two neighbouring places of the base.
+fn with_pairs(start: Sum, base: &[u8; 9]) -> Sum {
     let mut sum = start;
     for at in 0..8 {
-        sum = with_pairs(sum, base, at);
+        let mut text = *base;
+        for first in 0..=255 {
+            text[at] = first;
+            for second in 0..=255 {
+                text[at + 1] = second;
+                sum = with_words(sum, &text);
+            }
+        }
     }
     sum
 }
 
-// Every pair of bytes at every two neighbouring places.
 fn texts() -> Sum {
-    with_places(with_places(Sum::new(), &LONGEST), &SHORTEST)
+    with_pairs(with_pairs(Sum::new(), &LONGEST), &SHORTEST)
 }
 
 fn with_day(sum: Sum, word: u16) -> Sum {
@@ -279,11 +240,7 @@ fn with_day(sum: Sum, word: u16) -> Sum {
 
 // The day of every word, and whether the word is good.
 fn days() -> Sum {
-    let mut sum = Sum::new();
-    for word in 0..=65535 {
-        sum = with_day(sum, word);
-    }
-    sum
+    (0..=65535).fold(Sum::new(), with_day)
 }
 
 fn with_date(sum: Sum, day: u16, month: u16, year: u16) -> Sum {
@@ -291,41 +248,28 @@ fn with_date(sum: Sum, day: u16, month: u16, year: u16) -> Sum {
     sum.with(answer.number).with(answer.word)
 }
 
-fn with_years(start: Sum, day: u16, month: u16) -> Sum {
-    let mut sum = start;
-    for year in 1970..=2106 {
-        sum = with_date(sum, day, month, year);
-    }
-    sum
-}
-
-fn with_months(start: Sum, day: u16) -> Sum {
-    let mut sum = start;
-    for month in 0..=14 {
-        sum = with_years(sum, day, month);
-    }
-    sum
-}
-
 // The word of every day, and of days, months and years around the calendar that aren't in it.
 fn dates() -> Sum {
     let mut sum = Sum::new();
     for day in 0..=33 {
-        sum = with_months(sum, day);
+        for month in 0..=14 {
+            for year in 1970..=2106 {
+                sum = with_date(sum, day, month, year);
+            }
+        }
     }
     sum
 }
 
-fn show_sum(rt: &impl Print, name: &[u8], sum: Sum) {
-    show(rt, name);
-    let _ = println!(rt; "{}", sum.value());
+fn show_sum(rt: &impl Print, name: &str, sum: Sum) {
+    let _ = println!(rt; "{name} {}", sum.value());
 }
 
 fn main(rt: HostRuntime) {
     show_input(&rt, &mut rt.reader());
-    show_sum(&rt, b"words ", words());
-    show_sum(&rt, b"legal ", legal());
-    show_sum(&rt, b"texts ", texts());
-    show_sum(&rt, b"days ", days());
-    show_sum(&rt, b"dates ", dates());
+    show_sum(&rt, "words", words());
+    show_sum(&rt, "legal", legal());
+    show_sum(&rt, "texts", texts());
+    show_sum(&rt, "days", days());
+    show_sum(&rt, "dates", dates());
 }

@@ -13,7 +13,9 @@ use Rattle.meaning.specs.Sound.{rule, fault}
 use Rattle.squeezed.specs.Moves.{Move}
 use Rattle.squeezed.specs.Squeeze.{moves, new_parts, squeezed, has_tentative, overfull, too_short, squeeze_number, move_words, squeeze_by, squeeze}
 use Rattle.squeeze.specs.declared.Report.{Report}
-use Rattle.squeeze.specs.Reports.{Reports, report_of, judged}
+use Rattle.squeeze.specs.declared.Refusal.{Refusal}
+use Rattle.squeeze.specs.declared.Refusal.TheVariants.{Tentative, ShortList, Overfull}
+use Rattle.squeeze.specs.Reports.{Reports, number_of, report_of, judged}
 
 -- the three tests, as code makes them
 module _ (v : ℕ) (d : List ℕ) (room : ℕ) where
@@ -35,6 +37,12 @@ module _ (v : ℕ) (d : List ℕ) (room : ℕ) where
       unfolding judged
       is_right h = rw (calm, ← count, le-ltb room (3 * n) long, ← over, h) refl
 
+-- no refusal has the number 0
+pub refusing : (r : Refusal) → number_of r ≡ 0 → ⊥
+refusing Tentative e = absurd (omega arith)
+refusing ShortList e = absurd (omega arith)
+refusing Overfull e = absurd (omega arith)
+
 -- three words for each move
 words-length : (ms : List Move) → length (move_words ms) ≡ 3 * length ms
 unfolding move_words
@@ -51,9 +59,9 @@ none false true c h = absurd (omega arith)
 none false false true h = absurd (omega arith)
 none false false false h = (refl, refl)
 
-number_of : (n count : ℕ) → (report_of n count).number ≡ n
-number_of zero count = refl
-number_of (suc n) count = refl
+reported : (n count : ℕ) → (report_of n count).number ≡ n
+reported zero count = refl
+reported (suc n) count = refl
 
 -- a fault is answered by its number
 pub faulty : (v n : ℕ) (d list : List ℕ) → n ≡ fault v d → (n ≡ 0 → ⊥) → Reports (record { number = n; count = 0 }) d list (squeeze v d list)
@@ -77,7 +85,7 @@ module _ (v : ℕ) (d list : List ℕ) (sound : fault v d ≡ 0) where
   module _ {r : Report} (is : r ≡ judged v d (length list)) where
     number_told : r.number ≡ number
     unfolding judged
-    number_told = ap (λ (x : Report). x.number) is ∙ number_of number (length (moves d))
+    number_told = ap (λ (x : Report). x.number) is ∙ reported number (length (moves d))
 
     pub refused : (r.number ≡ 0 → ⊥) → Reports r d list (squeeze v d list)
     unfolding squeeze judged
@@ -111,8 +119,3 @@ by_count zero v d list =
     let ms = moves d in
     omega (arith, words-length ms, length-append (move_words ms) (drop (3 * length ms) list))
 by_count (suc n) v d list = omega arith
-
-pub count_fits : (v : ℕ) (d list : List ℕ) {r : Report} {words after : List ℕ} → Reports r words after (squeeze v d list)
-    → 3 * r.count ≤ length after
-unfolding squeeze
-count_fits v d list t = rw (t.count, t.listed) (by_count (squeeze_number v d list) v d list)

@@ -5,48 +5,58 @@
 ghost use Rattle.std.specs.Prelude.{◌≡◌, length};
 ghost use Rattle.meaning.specs.Sound.{fault};
 ghost use Rattle.squeezed.specs.Squeeze.{squeeze};
-ghost use Rattle.squeeze.specs.Reports.{judged, Reports};
+ghost use Rattle.squeeze.specs.Reports.{number_of, told, judged, Reports};
 
 use directory::sound::fault_of;
 use packing::anew::pack_chain;
 use tally::open::open_chain;
 use tally::survey::survey_chain;
 
-// 0 and how many moves are listed, three words each, or the number of the refusal and 0.
+// 0 and how many moves are listed, three words each, or the number of the refusal and 0. A number and no Result: that is how the manual and the
+// contract of `squeeze` have it.
 #[derive(Clone, Copy)]
 pub struct Report {
     pub number: u16,
     pub count: usize,
 }
 
-// What a sound directory is answered, with so many words of room for the moves.
-fn judge(d: &[u16], v: usize, room: usize) -> Report
+// Why a sound directory is not squeezed: an entry is tentative, the lent list is too short, or a segment would get more entries than it can hold.
+#[derive(Clone, Copy, PartialEq, Eq)]
+pub enum Refusal {
+    Tentative,
+    ShortList,
+    Overfull,
+}
+
+// The number by which a user knows a refusal.
+impl From<Refusal> for u16 {
+    ghost from_gives = { λ r n. n ≡ number_of r };
+
+    fn from(refusal: Refusal) -> u16 {
+        match refusal {
+            Refusal::Tentative => 21,
+            Refusal::ShortList => 24,
+            Refusal::Overfull => 26,
+        }
+    }
+}
+
+// How many moves a sound directory takes, with so many words of room for them.
+fn judge(d: &[u16], v: usize, room: usize) -> Result<usize, Refusal>
     requires { fault v d.now ≡ 0 }
-    ensures { result ≡ judged v d.now room }
+    ensures { told result ≡ judged v d.now room }
 {
     if open_chain(d) {
-        return Report {
-            number: 21,
-            count: 0,
-        };
+        return Err(Refusal::Tentative);
     }
     let survey = survey_chain(d, v);
     if room < 3 * survey.moves {
-        return Report {
-            number: 24,
-            count: 0,
-        };
+        return Err(Refusal::ShortList);
     }
     if survey.over {
-        return Report {
-            number: 26,
-            count: 0,
-        };
+        return Err(Refusal::Overfull);
     }
-    Report {
-        number: 0,
-        count: survey.moves,
-    }
+    Ok(survey.moves)
 }
 
 // Permanent files packed in their old order; FILE.BAD never moves, and no file passes one. The moves (from, to, length) come into the list from
@@ -54,14 +64,19 @@ fn judge(d: &[u16], v: usize, room: usize) -> Report
 pub fn squeeze(d: &mut [u16], v: usize, list: &mut [u16]) -> Report
     ensures { Reports result d.new list.new (squeeze v d.old list.old) }
 {
+    // The fault comes by its number, the one form in which `directory` hands it out.
     let number = fault_of(d, v);
     if number != 0 {
         return Report { number, count: 0 };
     }
-    let report = judge(d, v, list.len());
-    if report.number != 0 {
-        return report;
+    match judge(d, v, list.len()) {
+        Err(refusal) => Report {
+            number: refusal.into(),
+            count: 0,
+        },
+        Ok(count) => {
+            pack_chain(d, v, list);
+            Report { number: 0, count }
+        }
     }
-    pack_chain(d, v, list);
-    report
 }

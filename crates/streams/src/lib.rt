@@ -2,7 +2,9 @@
 // that says what failed.
 #![tactic(auto)]
 
-ghost use Rattle.std.specs.Prelude.{◌≤◌, length, take, IfOk};
+ghost use Rattle.std.specs.Prelude.{◌≡◌, ◌≤◌, length, take, IfOk, IfErr, OnOk, IsUtf8};
+ghost use Rattle.std.specs.IoError.{error_kind};
+ghost use Rattle.std.specs.declared.io.ErrorKind.TheVariants.{InvalidInput};
 ghost use Rattle.std.specs.Io.KnownBytes.{Consumes};
 
 use std::env::{Env, FillError};
@@ -19,31 +21,29 @@ const EINVAL: i32 = 22;
 
 const ENAMETOOLONG: i32 = 36;
 
-// One step of `read_full`: how many bytes a read put at the start of buf, 0 where it failed.
-fn read_some<R: Read>(reader: &mut R, buf: &mut [u8]) -> usize
-    ensures in_bounds { result ≤ length buf.new }
-    ensures bytes { Consumes (R.remaining reader.old) (R.remaining reader.new) (take result buf.new) }
+// Reads until buf is full, the input ends or a read fails. Returns how many bytes it put at the start of buf, and the error of a read that failed.
+pub fn fill<R: Read>(reader: &mut R, buf: &mut [u8]) -> (usize, io::Result<()>)
+    ensures in_bounds { result.0 ≤ length buf.new }
+    ensures bytes { Consumes (R.remaining reader.old) (R.remaining reader.new) (take result.0 buf.new) }
 {
-    match reader.read(buf) {
-        Ok(n) => n,
-        Err(_) => 0,
+    // A `while`, as in Rust: `done` goes on by what a read gave, and std's reads to the end need a Vec or lose the count.
+    let mut done = 0;
+    while done < buf.len() {
+        match reader.read(&mut buf[done..]) {
+            Ok(0) => break,
+            Ok(n) => done += n,
+            Err(error) => return (done, Err(error)),
+        }
     }
+    (done, Ok(()))
 }
 
-// Reads until buf is full, the input ends or a read fails, and returns how many bytes it put at the start of buf.
+// The same, where a read that fails is no more than the input's end.
 pub fn read_full<R: Read>(reader: &mut R, buf: &mut [u8]) -> usize
     ensures in_bounds { result ≤ length buf.new }
     ensures bytes { Consumes (R.remaining reader.old) (R.remaining reader.new) (take result buf.new) }
 {
-    let mut done = 0;
-    while done < buf.len() {
-        let n = read_some(reader, &mut buf[done..]);
-        if n == 0 {
-            break;
-        }
-        done += n;
-    }
-    done
+    fill(reader, buf).0
 }
 
 fn is_missing(rt: &impl Env, i: usize) -> bool {
@@ -51,33 +51,33 @@ fn is_missing(rt: &impl Env, i: usize) -> bool {
     matches!(rt.arg(i, &mut room), Err(FillError::NotPresent))
 }
 
-// How many arguments there are. The program's own name is the first.
+// How many arguments there are. The program's own name is the first. No `ensures`: no clause of std says what the system's arguments are.
 pub fn arg_count(rt: &impl Env) -> usize {
-    for i in 0..usize::MAX {
-        if is_missing(rt, i) {
-            return i;
-        }
-    }
-    usize::MAX
+    (0..usize::MAX)
+        .find(|i| is_missing(rt, *i))
+        .unwrap_or(usize::MAX)
 }
 
 // Puts argument i at the start of buf and returns its length.
 pub fn arg(rt: &impl Env, i: usize, buf: &mut [u8]) -> io::Result<usize>
     ensures { IfOk result (λ n. n ≤ length buf.new) }
 {
-    match rt.arg(i, buf) {
-        Ok(n) => Ok(n),
-        Err(FillError::NotPresent) => Err(io::Error::from_raw_os_error(EINVAL)),
-        Err(FillError::TooLong) => Err(io::Error::from_raw_os_error(ENAMETOOLONG)),
-    }
+    rt.arg(i, buf).map_err(|error| io::Error::from_raw_os_error(match error {
+        FillError::NotPresent => EINVAL,
+        FillError::TooLong => ENAMETOOLONG,
+    }))
 }
 
-// Opens the file for reading. A name that is not UTF-8 is refused, since std opens no such file.
-pub fn open_read<R: Files>(rt: &R, path: &[u8]) -> io::Result<R::File> {
-    match str::from_utf8(path) {
-        Ok(name) => File::open(rt, name),
-        Err(_) => Err(io::Error::new(ErrorKind::InvalidInput, "the name is not UTF-8")),
-    }
+// Opens the file for reading. A name that is not UTF-8 is refused as such, since std opens no such file. What else the system refuses no clause
+// can say.
+pub fn open_read<R: Files>(rt: &R, path: &[u8]) -> io::Result<R::File>
+    ensures opened { OnOk result (IsUtf8 path.now) }
+    ensures refused { ¬ (IsUtf8 path.now) → IfErr result (λ e. error_kind e ≡ InvalidInput) }
+{
+    let Ok(name) = str::from_utf8(path) else {
+        return Err(io::Error::new(ErrorKind::InvalidInput, "the name is not UTF-8"));
+    };
+    File::open(rt, name)
 }
 
 // Bytes as text, with a sign in place of what is not UTF-8.
@@ -97,6 +97,7 @@ impl fmt::Display for Shown<'_> {
 }
 
 // Writes a line to standard error: what failed, as the caller names it, a colon and why. Where standard error takes nothing, nobody can be told.
+// No `ensures`, here and at `fail`: they answer nothing and change no value that a clause can name.
 pub fn complain<D: fmt::Display + Drop>(rt: &impl Eprint, what: &[u8], why: D) {
     let _ = eprintln!(rt; "{}: {why}", Shown(what));
 }
@@ -107,8 +108,9 @@ pub fn fail<R: Eprint + Alloc>(rt: &R, what: &[u8], error: io::Error) {
         complain(rt, what, error);
         return;
     };
-    match text.split_once(" (os error ") {
-        Some((reason, _)) => complain(rt, what, reason),
-        None => complain(rt, what, text),
-    }
+    let whole = text.as_str();
+    let reason = whole
+        .split_once(" (os error ")
+        .map_or(whole, |parts| parts.0);
+    complain(rt, what, reason);
 }

@@ -1,7 +1,6 @@
 // The survey of all areas in one pass: whether one is long enough, whether an eligible one is, and the two longest eligible lengths.
-ghost use Rattle.std.specs.Prelude.{◌≡◌, false, ◌||◌, max};
-ghost use Rattle.meaning.specs.Kinds.{kind_of};
-ghost use Rattle.meaning.specs.Words.{slots, upto};
+ghost use Rattle.std.specs.Prelude.{◌≡◌, false};
+ghost use Rattle.meaning.specs.Words.{kind, slots, upto};
 ghost use Rattle.chain.specs.Chained.{Chained};
 ghost use Rattle.tidy.specs.Tidied.{Tidyable, Small};
 ghost use Rattle.survey.specs.declared.runs.OpenRun.TheVariants.{Calm};
@@ -10,6 +9,8 @@ ghost use Rattle.survey.specs.Surveyed.{noted, settled, met, survey_runs, Found,
 use crate::runs::{OpenRun, is_dropped, outline_of, run_after};
 use choice::choose::has_long;
 use choice::room;
+use segment::entries::entries_of;
+use segment::entry::Entry;
 use segment::kinds;
 
 // What all areas are like, for a least length: whether one is that long (else refusal 11), whether an eligible one is (else
@@ -29,41 +30,16 @@ pub struct Findings {
     pub untidy: bool,
 }
 
-// A function for `||`, so that its two ways meet in one fact.
-fn either(first: bool, second: bool) -> bool
-    ensures { result ≡ first || second }
-{
-    if first {
-        return true;
-    }
-    second
-}
-
-// The greater of two lengths.
-fn larger(first: u16, second: u16) -> u16
-    ensures { result ≡ max first second }
-{
-    if first <= second {
-        return second;
-    }
-    first
-}
-
 // The survey with one area more. A length that equals the longest is the second longest from now on: it is another entry's.
 fn note(found: Survey, size: u16, eligible: bool, least: usize) -> Survey
     ensures { result ≡ noted least found size eligible }
 {
     let enough = least <= size as usize;
-    let long = either(found.long, enough);
+    let long = found.long || enough;
     if !eligible {
-        return Survey {
-            long,
-            eligible: found.eligible,
-            longest: found.longest,
-            second: found.second,
-        };
+        return Survey { long, ..found };
     }
-    let fit = either(found.eligible, enough);
+    let fit = found.eligible || enough;
     if found.longest <= size {
         return Survey {
             long,
@@ -75,8 +51,8 @@ fn note(found: Survey, size: u16, eligible: bool, least: usize) -> Survey
     Survey {
         long,
         eligible: fit,
-        longest: found.longest,
-        second: larger(found.second, size),
+        second: found.second.max(size),
+        ..found
     }
 }
 
@@ -88,21 +64,24 @@ fn settle(found: Survey, run: OpenRun, free: usize, least: usize) -> Survey
         OpenRun::Calm(_) => found,
         OpenRun::Within(sum, held) => {
             if is_dropped(sum, held) {
-                return found;
+                found
+            } else {
+                note(found, sum, room::is_eligible(sum, held, free), least)
             }
-            note(found, sum, room::is_eligible(sum, held, free), least)
         }
     }
 }
 
-// The survey after a slot: an empty entry waits in its run, and any other ends the run.
-fn meet(found: Survey, run: OpenRun, status: u16, free: usize, least: usize) -> Survey
-    ensures { result ≡ met least free found run (kind_of status) }
+// The survey after an entry: an empty one waits in its run, and any other ends the run.
+#[tactic(auto, unfolding(crate::specs::Surveyed::met))]
+fn meet(found: Survey, run: OpenRun, entry: &Entry<'_>, free: usize, least: usize) -> Survey
+    ensures { result ≡ met least free found run (kind entry.now.words.now) }
 {
-    if kinds::is_empty(status) {
-        return found;
+    if kinds::is_empty(entry.status()) {
+        found
+    } else {
+        settle(found, run, free, least)
     }
-    settle(found, run, free, least)
 }
 
 // The survey with one segment more, of which so many slots are free.
@@ -110,19 +89,11 @@ fn survey_in(segment: &[u16], width: usize, free: usize, least: usize, given: Su
     requires { Tidyable width segment.now }
     ensures { result ≡ survey_runs least free given (Calm false) (upto (slots width segment.now)) }
 {
-    let mut left: usize = 507 / width;
-    let mut word: usize = 5;
     let mut found = given;
     let mut run = OpenRun::Calm(false);
-    while 0 < left {
-        let status = segment[word];
-        if kinds::is_marker(status) {
-            return settle(found, run, free, least);
-        }
-        found = meet(found, run, status, free, least);
-        run = run_after(run, status, segment[word + 4]);
-        word += width;
-        left -= 1;
+    for entry in entries_of(segment, width) {
+        found = meet(found, run, &entry, free, least);
+        run = run_after(run, &entry);
     }
     settle(found, run, free, least)
 }
@@ -158,7 +129,6 @@ pub fn survey_areas(words: &[u16], least: usize) -> Findings
 {
     let width = 7 + (words[3] / 2) as usize;
     let spare = (words[2] as usize) < words.len() / 512;
-    let mut left = words[2] as usize;
     let mut number: usize = 1;
     let mut areas = Survey {
         long: false,
@@ -167,14 +137,13 @@ pub fn survey_areas(words: &[u16], least: usize) -> Findings
         second: 0,
     };
     let mut untidy = false;
-    while 0 < left {
+    for _ in 0..words[2] {
         let base = 512 * (number - 1);
-        let end = base + 512;
-        let found = survey_segment(&words[base..end], width, spare, least, areas);
+        let segment = &words[base..base + 512];
+        let found = survey_segment(segment, width, spare, least, areas);
         areas = found.areas;
-        untidy = either(untidy, found.untidy);
-        number = words[base + 1] as usize;
-        left -= 1;
+        untidy = untidy || found.untidy;
+        number = segment[1] as usize;
     }
     Findings { areas, untidy }
 }

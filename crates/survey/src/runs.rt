@@ -1,10 +1,11 @@
-// Runs of neighbouring empty entries, as a walk over a segment's slots meets them, and what becomes of a segment once they are joined.
+// Runs of neighbouring empty entries, as a walk over a segment's entries meets them, and what becomes of a segment once they are joined.
 ghost use Rattle.std.specs.Prelude.{◌≡◌, ◌+◌, ◌≤◌};
-ghost use Rattle.meaning.specs.Kinds.{kind_of};
-ghost use Rattle.meaning.specs.Words.{slots, upto};
+ghost use Rattle.meaning.specs.Words.{kind, blocks, slots, upto};
 ghost use Rattle.tidy.specs.Tidied.{Tidyable};
 ghost use Rattle.survey.specs.Runs.{sum_so_far, after, dropped, LeftBy, LetOut, Outlined};
 
+use segment::entries::entries_of;
+use segment::entry::Entry;
 use segment::kinds;
 
 // Where a walk stands. Either no run is open, and a tentative entry stands directly before or not; or a run is open: the sum of its
@@ -22,20 +23,18 @@ pub struct Outline {
     pub entries: usize,
 }
 
-// Where the walk stands after a slot: an empty entry joins the run or opens one.
-pub fn run_after(run: OpenRun, status: u16, blocks: u16) -> OpenRun
-    requires { sum_so_far run + blocks ≤ 65535 }
-    ensures { result ≡ after run (kind_of status) blocks }
+// Where the walk stands after an entry: an empty one joins the run or opens one.
+#[tactic(auto, unfolding(crate::specs::Runs::after))]
+pub fn run_after(run: OpenRun, entry: &Entry<'_>) -> OpenRun
+    requires { sum_so_far run + blocks entry.now.words.now ≤ 65535 }
+    ensures { result ≡ after run (kind entry.now.words.now) (blocks entry.now.words.now) }
 {
-    if !kinds::is_empty(status) {
-        return OpenRun::Calm(kinds::is_tentative(status));
+    if !kinds::is_empty(entry.status()) {
+        return OpenRun::Calm(kinds::is_tentative(entry.status()));
     }
     match run {
-        OpenRun::Calm(held) => OpenRun::Within(blocks, held),
-        OpenRun::Within(sum, held) => {
-            let grown = sum + blocks;
-            OpenRun::Within(grown, held)
-        }
+        OpenRun::Calm(held) => OpenRun::Within(entry.blocks(), held),
+        OpenRun::Within(sum, held) => OpenRun::Within(sum + entry.blocks(), held),
     }
 }
 
@@ -43,10 +42,7 @@ pub fn run_after(run: OpenRun, status: u16, blocks: u16) -> OpenRun
 pub fn is_dropped(sum: u16, held: bool) -> bool
     ensures { result ≡ dropped sum held }
 {
-    if sum != 0 {
-        return false;
-    }
-    !held
+    sum == 0 && !held
 }
 
 // How many entries a run that ends becomes: one, or none where its sum is dropped.
@@ -55,23 +51,20 @@ fn left_by(run: OpenRun) -> usize
 {
     match run {
         OpenRun::Calm(_) => 0,
-        OpenRun::Within(sum, held) => {
-            if is_dropped(sum, held) {
-                return 0;
-            }
-            1
-        }
+        OpenRun::Within(sum, held) => { if is_dropped(sum, held) { 0 } else { 1 } }
     }
 }
 
-// How many entries a slot lets out: an empty one waits in its run, and any other ends the run and follows it.
-fn let_out(run: OpenRun, status: u16) -> usize
-    ensures { LetOut result run (kind_of status) }
+// How many entries an entry lets out: an empty one waits in its run, and any other ends the run and follows it.
+#[tactic(auto, unfolding(crate::specs::Runs::lets))]
+fn let_out(run: OpenRun, entry: &Entry<'_>) -> usize
+    ensures { LetOut result run (kind entry.now.words.now) }
 {
-    if kinds::is_empty(status) {
-        return 0;
+    if kinds::is_empty(entry.status()) {
+        0
+    } else {
+        left_by(run) + 1
     }
-    left_by(run) + 1
 }
 
 // A segment in one walk.
@@ -79,26 +72,16 @@ pub fn outline_of(segment: &[u16], width: usize) -> Outline
     requires { Tidyable width segment.now }
     ensures { Outlined result (upto (slots width segment.now)) }
 {
-    let slots = 507 / width;
-    let mut left: usize = slots;
-    let mut word: usize = 5;
     let mut count: usize = 0;
+    let mut entries: usize = 0;
     let mut run = OpenRun::Calm(false);
-    while 0 < left {
-        let status = segment[word];
-        if kinds::is_marker(status) {
-            return Outline {
-                count: count + left_by(run),
-                entries: slots - left,
-            };
-        }
-        count += let_out(run, status);
-        run = run_after(run, status, segment[word + 4]);
-        word += width;
-        left -= 1;
+    for entry in entries_of(segment, width) {
+        count += let_out(run, &entry);
+        entries += 1;
+        run = run_after(run, &entry);
     }
     Outline {
         count: count + left_by(run),
-        entries: slots - left,
+        entries,
     }
 }

@@ -1,6 +1,6 @@
 -- The tally counts what the meaning has: by induction on the entries, its free block is `free_up_to`, its moves are the needed ones of `places`
 -- and its entries those of `packed`. So the survey of a segment comes out as the meaning says it.
-use Prim.Native.Nat.{ℕ, ◌+◌, ◌-◌, ◌≤◌}
+use Prim.Native.Nat.{ℕ, ◌+◌, ◌-◌}
 use native.Mathlib.Nat.{add-zero, zero-add}
 use native.Mathlib.Omega.{arith}
 use mathlib.Core.Path.{◌≡◌, refl, ◌∙◌}
@@ -13,8 +13,8 @@ use Rattle.squeezed.specs.Moves.{Move, idle, needed}
 use Rattle.squeezed.specs.Squeeze.{is_file, new_place, free_after, free_up_to, places, left_over, packed_entries}
 use Rattle.tally.specs.declared.tally.Tally.{Tally}
 use Rattle.tally.specs.declared.survey.Survey.{Survey}
-use Rattle.tally.specs.Tallied.{entry_count, tally_after, tallied, Tallyable, TalliedTo}
-use Rattle.tally.specs.Surveyed.{last_count, survey_after, Surveyable, SurveyedTo}
+use Rattle.tally.specs.Tallied.{entry_count, tally_after, tallied, TalliedTo}
+use Rattle.tally.specs.Surveyed.{last_count, survey_after, SurveyedTo}
 
 -- a move counts if it is needed
 needed-count : (m : Move) (ms : List Move) → length (needed (m ∷ ms)) ≡ cond (idle m) 0 1 + length (needed ms)
@@ -65,11 +65,8 @@ tallied-is w [] b t = rw (add-zero t.moves, add-zero t.entries) refl
 tallied-is w (e ∷ es) b t = tallied-is w es (b + blocks e) (tally_after b t e) ∙ counted_step w b t e es
 
 -- the survey of a segment, from a tally that begins with what is known
-abbrev pub begin : Survey → Tally
+abbrev begin : Survey → Tally
 begin x = record { free = x.free; moves = x.moves; entries = 0 }
-
-pub tallyable : (w : ℕ) (g : List ℕ) (x : Survey) → Surveyable w g x → Tallyable w g (first_of g) (begin x)
-tallyable w g x h = record { walk = h.walk; few = h.few; many = omega arith }
 
 pub survey-made : (v w left : ℕ) (g : List ℕ) (x : Survey) (u : Tally) (n : ℕ) (o : Bool) → TalliedTo w g (first_of g) (begin x) u
     → n ≡ last_count left u.free v → o ≡ x.over || ltb (slot_count w - 1) (u.entries + n)
@@ -78,11 +75,3 @@ unfolding survey_after
 survey-made v w left g x u n o t i j =
     let e = t.is ∙ tallied-is w (upto (slots w g)) (first_of g) (begin x) in
     record { is = rw (j, i, e, zero-add) refl; moves = t.moves }
-
-pub last-small : (left q v : ℕ) → last_count left q v ≤ 1
-last-small left q v = go (eqb left 1) (eqb q v)
-  where
-    go : (x y : Bool) → cond x (cond y 0 1) 0 ≤ 1
-    go true true = omega arith
-    go true false = omega arith
-    go false y = omega arith

@@ -1,4 +1,3 @@
-pub mod Places
 pub mod Onward
 pub mod Opens
 pub mod Tallies

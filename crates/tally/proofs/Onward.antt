@@ -15,6 +15,12 @@ use Rattle.chain.proofs.Links.{link_at}
 use Rattle.squeezed.proofs.Along.{free-bounds}
 use Rattle.tally.specs.Walks.{next_free, Walkable}
 
+-- where segments are left, the one at hand lies in the directory
+pub record Within (d : List ℕ) (left s : ℕ) : Type 0 where
+  pub low : 0 < left → 1 ≤ s
+  pub most : 0 < left → s ≤ 31
+  pub inside : 0 < left → 512 * s ≤ length d
+
 -- so many segments are left, from segment s on, which stands at block b; the next free block p has not passed it
 pub record Onward (v : ℕ) (d : List ℕ) (left s b p : ℕ) : Type 0 where
   pub way : Way (shape_of d) d (chain_from left d s) s b 0 v
@@ -69,3 +75,6 @@ module _ {v : ℕ} {d : List ℕ} (sd : Sound v d) where
             end = omega (arith, t, st.first);
             rest = rw (k, ← e) (record { way = y.2; low = omega (arith, f.1, st.first) });
           }
+
+  pub within : {left s b p : ℕ} → Onward v d left s b p → Within d left s
+  within o = record { low = λ h. (here h o).low; most = λ h. (here h o).most; inside = λ h. (here h o).inside }

@@ -10,7 +10,6 @@ use lib.Dec.{eqb}
 use borrow.Author.Tests.{ne_eqb}
 use Rattle.meaning.specs.Words.{first_data, highest, slot_words, capacity, Entry, entries, total, chain_from, chain}
 use Rattle.meaning.specs.Sound.{any}
-use Rattle.walks.proofs.Words.{header}
 use Rattle.walks.proofs.Lists.{chain-over}
 use Rattle.rules.proofs.Rule5.{rule1-holds, rule2-holds}
 use Rattle.rules.proofs.Soundness.{Sound}
@@ -21,7 +20,7 @@ use Rattle.squeezed.specs.Moves.{needed}
 use Rattle.squeezed.specs.Squeeze.{free_up_to, places, moves, left_over, packed_entries, last_over, parts, new_parts, overfull}
 use Rattle.squeezed.proofs.Along.{places-append, needed-append}
 use Rattle.tally.specs.declared.survey.Survey.{Survey}
-use Rattle.tally.proofs.Onward.{Onward, onward, Here, here}
+use Rattle.tally.proofs.Onward.{Within, Onward, onward, Here, here, within}
 use Rattle.tally.specs.Surveyed.{last_count, survey_after, Surveyable, SurveyedTo, ChainSurveyed}
 
 -- the moves of a segment's entries, and of those after it
@@ -49,6 +48,7 @@ last-length w (suc (suc n)) q v d z h =
 pub record Surveying (v : ℕ) (d : List ℕ) (left s : ℕ) (x : Survey) : Type 0 where
   pub block : ℕ
   pub on : Onward v d left s block x.free
+  pub place : Within d left s
   pub few : x.moves + 507 * left ≤ 507 * 31
   pub moves : x.moves + length (needed (places block x.free (spread (slot_words d) d (chain_from left d s)))) ≡ length (moves d)
   pub over : x.over || overfull (capacity d) (parts v d x.free (chain_from left d s)) ≡ overfull (capacity d) (new_parts v d)
@@ -59,6 +59,7 @@ survey_starts {v} {d} sd =
     record {
       block = first_data d;
       on = onward sd;
+      place = within sd (onward sd);
       few = omega (arith, (rule1-holds v d sd.size).few, (rule2-holds d sd.header).within);
       moves = rw (all-spread d) (omega arith);
       over = refl;
@@ -84,6 +85,7 @@ module _ {v : ℕ} {d : List ℕ} (sd : Sound v d) {left s : ℕ} {x : Survey} (
     pub survey-next : (r : Survey) → SurveyedTo v (slot_words d) left (part_of d s) x r → Surveying v d (left - 1) (link_at d s) r
     unfolding survey_after parts overfull any capacity entries
     survey-next r o =
+        let on = at-segment.rest in
         let w = slot_words d in
         let b = i.block in
         let first = at-segment.first in
@@ -95,7 +97,8 @@ module _ {v : ℕ} {d : List ℕ} (sd : Sound v d) {left s : ℕ} {x : Survey} (
         rw is
         (record {
           block = b + total es;
-          on = rw first at at-segment.rest;
+          on = rw first at on;
+          place = within sd on;
           few = omega (arith, rw is at o.moves, i.few);
           moves = omega (arith, moves-join es (spread w d ss) b x.free, rw (chain_next left d s h) at i.moves);
           over =

@@ -1,23 +1,20 @@
--- The tally of a segment, slot by slot. An entry takes the next free block no further than its own end, one move at most and two entries at
+-- The tally of a segment, entry by entry. An entry takes the next free block no further than its own end, one move at most and two entries at
 -- most. The loop keeps that the tally of the entries ahead, from what is counted so far, is the tally of all.
-use Prim.Native.Nat.{ℕ, ◌+◌, ◌*◌, ◌-◌, ◌≤◌, ◌<◌}
-use mathlib.Core.Path.{◌≡◌, refl}
+use Prim.Native.Nat.{ℕ, ◌+◌, ◌*◌, ◌≤◌}
+use mathlib.Core.Path.{◌≡◌, refl, ap}
 use mathlib.Core.Bool.{Bool, true, false, cond}
-use mathlib.Core.List.{List}
+use mathlib.Core.List.{List, [], ◌∷◌}
+use native.Mathlib.Nat.{div-le_self}
 use native.Mathlib.Omega.{arith}
-use lib.ListN.{get_or, take, drop}
+use lib.ListN.{length}
 use lib.Dec.{eqb}
-use Rattle.meaning.specs.Kinds.{kind_of, is_permanent, is_end}
-use Rattle.meaning.specs.Words.{Entry, blocks, slot_count, slots, upto, total}
-use Rattle.walks.proofs.Words.{word}
-use Rattle.walks.proofs.Slots.{mul_less}
-use Rattle.segment.proofs.Ahead.{slot_at, ahead, ahead-all, ahead_none, ahead-end, ahead-next, total-next, first-room, few-slots}
+use Rattle.meaning.specs.Words.{Entry, blocks, slots, upto, total}
+use Rattle.walks.proofs.Slots.{entries-count}
 use Rattle.squeezed.specs.Moves.{idle}
 use Rattle.squeezed.specs.Squeeze.{is_file, new_place}
 use Rattle.squeezed.proofs.Steps.{place-bounds}
 use Rattle.tally.specs.declared.tally.Tally.{Tally}
 use Rattle.tally.specs.Tallied.{move_count, entry_count, file_tallied, tally_after, tallied, Tallyable, TalliedTo}
-use Rattle.tally.proofs.Places.{file-at}
 
 pub move-small : (b q n : ℕ) → move_count b q n ≤ 1
 move-small b q n = go (idle (record { source = b; to = q; length = n }))
@@ -32,17 +29,6 @@ entry-small p q = go (eqb p q)
     go : (x : Bool) → cond x 1 2 ≤ 2
     go true = omega arith
     go false = omega arith
-
--- the entry at this word, which is no file, or one that goes to block q
-module _ (g : List ℕ) (p w b : ℕ) (t : Tally) (wide : 7 ≤ w) where
-  pub tally_past : is_permanent (kind_of (get_or g p 0)) ≡ false → t ≡ tally_after b t (take w (drop p g))
-  unfolding tally_after
-  tally_past h = rw (file-at g p w wide, h) refl
-
-  pub tally_made : is_permanent (kind_of (get_or g p 0)) ≡ true → (q : ℕ) → q ≡ new_place b t.free (take w (drop p g))
-      → (u : Tally) → u ≡ file_tallied b t q (get_or g (p + 4) 0) → u ≡ tally_after b t (take w (drop p g))
-  unfolding tally_after
-  tally_made h q i u k = rw (k, i, file-at g p w wide, h, word g p w 4 (omega arith)) refl
 
 -- an entry of n blocks keeps the bounds
 record Grown (b : ℕ) (t u : Tally) (n : ℕ) : Type 0 where
@@ -63,59 +49,40 @@ grown b t e h = go (is_file e)
         }
     go false = record { free = omega arith; moves = omega arith; entries = omega arith }
 
--- the loop: so many slots are left, from word p and block b on
-pub record Tallying (g : List ℕ) (w b₀ : ℕ) (t₀ : Tally) (left p b : ℕ) (t : Tally) : Type 0 where
-  pub room : p + left * w ≤ 512
+-- the loop: the entries es are ahead, the first of which stands at block b
+pub record Tallying (g : List ℕ) (w b₀ : ℕ) (t₀ : Tally) (es : List Entry) (b : ℕ) (t : Tally) : Type 0 where
   pub low : t.free ≤ b
-  pub high : b + total (ahead g w left p) ≤ 65535
-  pub few : t.moves + left ≤ t₀.moves + 507
-  pub many : t.entries + 2 * left ≤ t₀.entries + 1014
-  pub same : tallied b t (ahead g w left p) ≡ tallied b₀ t₀ (upto (slots w g))
+  pub high : b + total es ≤ 65535
+  pub few : t.moves + length es ≤ t₀.moves + 507
+  pub many : t.entries + 2 * length es ≤ t₀.entries + 1014
+  pub same : tallied b t es ≡ tallied b₀ t₀ (upto (slots w g))
 
-pub tallying : (g : List ℕ) (w b : ℕ) (t : Tally) → Tallyable w g b t → Tallying g w b t (slot_count w) 5 b t
+pub tallying : (g : List ℕ) (w b : ℕ) (t : Tally) → Tallyable w g b t → Tallying g w b t (upto (slots w g)) b t
 tallying g w b t h =
-    let n = few-slots w in
-    record {
-      room = first-room w;
-      low = h.walk.low;
-      high = rw (← ahead-all g w) h.walk.high;
-      few = omega arith;
-      many = omega arith;
-      same = rw (← ahead-all g w) refl;
-    }
+    let few = entries-count w g in
+    let all = div-le_self 507 w in
+    record { low = h.walk.low; high = h.walk.high; few = omega arith; many = omega arith; same = refl }
 
-module _ {g : List ℕ} {w b₀ : ℕ} {t₀ : Tally} {left p b : ℕ} {t : Tally} (i : Tallying g w b₀ t₀ left p b t) where
-  made : t ≡ tallied b₀ t₀ (upto (slots w g)) → TalliedTo w g b₀ t₀ t
-  made e = record { is = e; moves = omega (arith, i.few); entries = omega (arith, i.many) }
-
-  pub tally_over : left ≤ 0 → TalliedTo w g b₀ t₀ t
+module _ {g : List ℕ} {w b₀ : ℕ} {t₀ : Tally} {es : List Entry} {b : ℕ} {t : Tally} (i : Tallying g w b₀ t₀ es b t) where
+  -- no entry is ahead
+  pub tally_over : es ≡ [] → TalliedTo w g b₀ t₀ t
   unfolding tallied
-  tally_over h = made (rw (ahead_none g w left p h) at i.same)
+  tally_over e = record { is = rw e at i.same; moves = omega (arith, i.few); entries = omega (arith, i.many) }
 
-  module _ (h : 0 < left) where
-    -- the slot at hand lies in the segment, and those after it
-    pub tally_fits : p + w + (left - 1) * w ≤ 512
-    tally_fits = omega (arith, i.room, mul_less left w h)
+  -- the entry e is the first of those ahead
+  module _ (e : Entry) (others : List Entry) (next : es ≡ e ∷ others) where
+    pub tally_high : b + blocks e + total others ≤ 65535
+    unfolding total
+    tally_high = omega (arith, rw next at i.high)
 
-    module _ (wide : 7 ≤ w) where
-      pub tally_end : is_end (kind_of (get_or g p 0)) ≡ true → TalliedTo w g b₀ t₀ t
-      unfolding tallied
-      tally_end m = made (rw (ahead-end g w left p h wide m) at i.same)
-
-      module _ (m : is_end (kind_of (get_or g p 0)) ≡ false) where
-        pub tally_high : b + get_or g (p + 4) 0 + total (ahead g w (left - 1) (p + w)) ≤ 65535
-        tally_high = omega (arith, i.high, total-next g w left p h wide m)
-
-        pub tally_next : (u : Tally) → u ≡ tally_after b t (slot_at g w p) → Tallying g w b₀ t₀ (left - 1) (p + w) (b + get_or g (p + 4) 0) u
-        unfolding tallied
-        tally_next u e =
-            let z : blocks (slot_at g w p) ≡ get_or g (p + 4) 0 = word g p w 4 (omega arith) in
-            let y = grown b t (slot_at g w p) i.low in
-            record {
-              room = tally_fits;
-              low = rw e (omega (arith, y.free));
-              high = tally_high;
-              few = rw e (omega (arith, y.moves, i.few));
-              many = rw e (omega (arith, y.entries, i.many));
-              same = rw (e, ← z) (rw (ahead-next g w left p h wide m) at i.same);
-            }
+    pub tally_next : Tallying g w b₀ t₀ others (b + blocks e) (tally_after b t e)
+    unfolding tallied
+    tally_next =
+        let y = grown b t e i.low in
+        record {
+          low = y.free;
+          high = tally_high;
+          few = omega (arith, y.moves, i.few, ap length next);
+          many = omega (arith, y.entries, i.many, ap length next);
+          same = rw next at i.same;
+        }

@@ -1,5 +1,5 @@
 -- What a squeeze counts before it writes, entry by entry: the next free block, the moves, the entries of the segment made anew.
-use Rattle.std.specs.Prelude.{ℕ, ◌+◌, ◌≤◌, ◌≡◌, cond, List, [], ◌∷◌, length, eqb}
+use Rattle.std.specs.Prelude.{ℕ, ◌+◌, ◌≤◌, ◌≡◌, cond, List, [], ◌∷◌, eqb}
 use Rattle.meaning.specs.Words.{Entry, blocks, slots, upto}
 use Rattle.squeezed.specs.Moves.{idle}
 use Rattle.squeezed.specs.Squeeze.{is_file, new_place}
@@ -28,10 +28,8 @@ unfoldable pub tallied : ℕ → Tally → List Entry → Tally
 tallied b t [] = t
 tallied b t (e ∷ es) = tallied (b + blocks e) (tally_after b t e) es
 
--- what the tally of the slot at word p presumes: the slot lies in the segment, no file has passed block b, and no sum wraps
-pub record SlotTallyable (w : ℕ) (g : List ℕ) (p b : ℕ) (t : Tally) : Type 0 where
-  pub wide : 7 ≤ w
-  pub inside : p + w ≤ length g
+-- what the tally of an entry at block b presumes: no file has passed it, and no sum wraps
+pub record EntryTallyable (b : ℕ) (t : Tally) : Type 0 where
   pub low : t.free ≤ b
   pub high : b ≤ 65535
   pub few : t.moves ≤ 100000

@@ -1,17 +1,18 @@
-// Where a file goes. `stands` is the block where the entry at this word stands, `free` the next free block of those that are packed.
-ghost use Rattle.std.specs.Prelude.{◌≡◌, ◌+◌, ◌≤◌, length, take, drop};
+// Where a file goes. `stands` is the block where its entry stands, `free` the next free block of those that are packed.
+ghost use Rattle.std.specs.Prelude.{◌≡◌};
 ghost use Rattle.squeezed.specs.Squeeze.{new_place};
 
-use meaning::FILE_BAD;
-use segment::naming;
+use meaning::is_spared;
+use segment::entry::Entry;
 
 // FILE.BAD never moves, every other file goes to the next free block.
-pub fn place_at(segment: &[u16], word: usize, width: usize, stands: usize, free: usize) -> usize
-    requires { (7 ≤ width) × (word + width ≤ length segment.now) }
-    ensures { result ≡ new_place stands free (take width (drop word segment.now)) }
+#[tactic(auto, unfolding(squeezed::specs::Squeeze::new_place, squeezed::specs::Squeeze::is_bad))]
+pub fn place_at(entry: &Entry<'_>, stands: usize, free: usize) -> usize
+    ensures { result ≡ new_place stands free entry.now.words.now }
 {
-    if naming::is_named(segment, word, width, FILE_BAD) {
-        return stands;
+    if is_spared(entry.name()) {
+        stands
+    } else {
+        free
     }
-    free
 }

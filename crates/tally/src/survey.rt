@@ -1,12 +1,13 @@
 // A pass over the chain that only reads: how many moves there are, and whether a segment gets more entries than it can hold. With these, refusals 24
 // and 26 are a comparison each, before anything is written.
-ghost use Rattle.std.specs.Prelude.{◌≡◌, ◌||◌, ltb};
+ghost use Rattle.std.specs.Prelude.{◌≡◌};
 ghost use Rattle.meaning.specs.Sound.{fault};
 ghost use Rattle.tally.specs.Surveyed.{last_count, Surveyable, SurveyedTo, ChainSurveyed};
 
 use crate::tally::{Tally, tally_segment};
 
-// The next free block, the moves so far, and whether a segment so far is overfull.
+// The next free block, the moves so far, and whether a segment so far is overfull. No Option of the moves: they are asked for first, also where
+// a segment is overfull.
 #[derive(Clone, Copy)]
 pub struct Survey {
     pub free: usize,
@@ -18,23 +19,7 @@ pub struct Survey {
 fn last_count(left: usize, free: usize, v: usize) -> usize
     ensures { result ≡ last_count left free v }
 {
-    if left != 1 {
-        return 0;
-    }
-    if free == v {
-        return 0;
-    }
-    1
-}
-
-// Whether a segment so far is overfull, or this one is. A function of its own, so that the survey has no branch whose two ways go on.
-fn is_over(over: bool, room: usize, entries: usize) -> bool
-    ensures { result ≡ over || ltb room entries }
-{
-    if over {
-        return true;
-    }
-    room < entries
+    usize::from(left == 1 && free != v)
 }
 
 // The survey with one segment more, where so many segments are left, this one among them. One slot is for the marker.
@@ -50,11 +35,11 @@ fn survey_segment(segment: &[u16], width: usize, left: usize, v: usize, known: S
     };
     let t = tally_segment(segment, width, stands, start);
     let entries = t.entries + last_count(left, t.free, v);
-    let over = is_over(known.over, 507 / width - 1, entries);
+    let room = 507 / width - 1;
     Survey {
         free: t.free,
         moves: t.moves,
-        over,
+        over: known.over || room < entries,
     }
 }
 
@@ -64,19 +49,17 @@ pub fn survey_chain(words: &[u16], v: usize) -> Survey
     ensures { ChainSurveyed v words.now result }
 {
     let width = 7 + (words[3] / 2) as usize;
-    let mut left = words[2] as usize;
+    let highest = words[2] as usize;
     let mut number: usize = 1;
     let mut so_far = Survey {
         free: 6 + 2 * (words.len() / 512),
         moves: 0,
         over: false,
     };
-    while 0 < left {
+    for passed in 0..highest {
         let base = 512 * (number - 1);
-        let end = base + 512;
-        so_far = survey_segment(&words[base..end], width, left, v, so_far);
+        so_far = survey_segment(&words[base..base + 512], width, highest - passed, v, so_far);
         number = words[base + 1] as usize;
-        left -= 1;
     }
     so_far
 }

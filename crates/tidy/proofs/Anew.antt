@@ -15,7 +15,7 @@ use Rattle.walks.proofs.Untidy.{tidy-none, tidy-fewer}
 use Rattle.segment.specs.Written.{Written}
 use Rattle.tidy.specs.Tidied.{tidied_words}
 use Rattle.tidy.specs.OpenRun.{Finished}
-use Rattle.segment.proofs.Writes.{copied-whole, pasted, both_written, written-fits, written-anew}
+use Rattle.segment.proofs.Writes.{pasted, both_written, written-fits, written-anew}
 use Rattle.walks.proofs.Flat.{entries_proper, flat_more, render-length, render-head, render-entries}
 use Rattle.walks.proofs.Slots.{entries-count}
 use Rattle.tidy.proofs.Tidying.{tidy_proper}
@@ -34,16 +34,6 @@ rendered h b a es z n e u =
     append_assoc h l zeros ∙ ap {B = List ℕ} (λ x. h ++ x) (flat_more es (end_status ∷ []) zeros) in
     written-anew 512 (h ++ l) a z k v ∙ ap (take 512) w
 
--- the segment's own header copied, and all copied back
-copied-back : (g b a x : List ℕ) (es : List Entry) (z : ℕ) → length g ≡ 512
-    → b ≡ paste (replicate 512 0) 0 (take 5 g) (length (take 5 g))
-    → Written b 5 (flat es (end_status ∷ [])) a z → x ≡ paste g 0 a (length a) → x ≡ render (take 5 g) es
-copied-back g b a x es z n e u q =
-    let h : List ℕ = take 5 g in
-    let k : length h ≡ 5 = length-take-le 5 g (omega arith) in
-    let o : a ≡ render h es = rendered h b a es z k e u in
-    q ∙ copied-whole g a (ap length o ∙ render-length h es ∙ sym n) ∙ o
-
 -- a segment's entries, and the same tidied
 abbrev entries_in : ℕ → List ℕ → List Entry
 entries_in w g = upto (slots w g)
@@ -52,19 +42,20 @@ abbrev tidied_in : ℕ → List ℕ → List Entry
 tidied_in w g = tidy (upto (slots w g))
 
 module _ (w : ℕ) (g : List ℕ) (n : length g ≡ 512) (wide : 7 ≤ w) where
+  header-length : length (take 5 g) ≡ 5
+  header-length = length-take-le 5 g (omega arith)
+
   pub stays : untidy (entries_in w g) ≡ false → g ≡ tidied_words w g
   unfolding tidied_words
   stays u = rw u
 
-  pub changed : (b a x : List ℕ) → untidy (entries_in w g) ≡ true → Finished b 5 (tidied_in w g) a
-      → b ≡ paste (replicate 512 0) 0 (take 5 g) (length (take 5 g)) → x ≡ paste g 0 a (length a) → x ≡ tidied_words w g
+  -- the segment's own header copied, and its tidied entries behind it
+  pub changed : (b a : List ℕ) → untidy (entries_in w g) ≡ true → Finished b 5 (tidied_in w g) a
+      → b ≡ paste (replicate 512 0) 0 (take 5 g) (length (take 5 g)) → a ≡ tidied_words w g
   unfolding tidied_words
-  changed b a x u t f q = rw u (copied-back g b a x (tidied_in w g) _ n f t q)
+  changed b a u t f = rw u (rendered (take 5 g) b a (tidied_in w g) _ header-length f t)
 
   -- the tidied words: as many, with the same header, and the tidied entries
-  header-length : length (take 5 g) ≡ 5
-  header-length = length-take-le 5 g (omega arith)
-
   pub words-length : length (tidied_words w g) ≡ 512
   unfolding tidied_words
   words-length = go (untidy (entries_in w g))

@@ -1,58 +1,38 @@
--- Where the tidy of a segment stands, as code holds it: a run of empty entries by the word of its first.
-use Rattle.std.specs.Prelude.{ℕ, ◌+◌, ◌≤◌, ◌≡◌, cond, List, [], ◌∷◌, ◌++◌, length, take, drop}
-use Rattle.meaning.specs.Kinds.{end_status, kind_of, is_tentative, is_empty}
-use Rattle.meaning.specs.Words.{Entry}
+-- Where the tidy of a segment stands, as code holds it: a run of empty entries by its first.
+use Rattle.std.specs.Prelude.{ℕ, ◌+◌, cond, List, [], ◌∷◌, ◌++◌, length}
+use Rattle.meaning.specs.Kinds.{end_status, is_tentative}
+use Rattle.meaning.specs.Words.{Entry, kind}
 use Rattle.meaning.specs.Requests.{flat}
 use Rattle.meaning.specs.Enter.{is_area}
-use Rattle.walks.specs.Runs.{RunSoFar, calm, within, flushed}
+use Rattle.walks.specs.Runs.{RunSoFar, calm, within, absorb, flushed}
 use Rattle.segment.specs.Written.{Written}
 use Rattle.tidy.specs.declared.tidy.RunAt.{RunAt}
 use Rattle.tidy.specs.declared.tidy.RunAt.TheVariants.{Calm, Within}
 
--- the run of the definition, with its first entry from the segment's words g, in slots of w words
-abbrev pub run_of : List ℕ → ℕ → RunAt → RunSoFar
-run_of g w (Calm p) = calm p
-run_of g w (Within k t p) = within (take w (drop k g)) t p
+-- the run of the definition
+abbrev pub run_of : RunAt → RunSoFar
+run_of (Calm p) = calm p
+run_of (Within e t p) = within e.words.now t p
 
 -- the sum of the open run
-abbrev pub sum_of : RunAt → ℕ
-sum_of (Calm p) = 0
-sum_of (Within k t p) = t
+abbrev pub sum_of : RunSoFar → ℕ
+sum_of (calm p) = 0
+sum_of (within e t p) = t
 
--- an empty entry of n blocks more, at word k
-abbrev pub absorb_at : RunAt → ℕ → ℕ → RunAt
-absorb_at (Calm p) k n = Within k n p
-absorb_at (Within j t p) k n = Within j (t + n) p
-
--- after a slot at word k, with its status and n blocks
-unfoldable pub run_after : RunAt → ℕ → ℕ → ℕ → RunAt
-run_after run k status n = cond (is_empty (kind_of status)) (absorb_at run k n) (Calm (is_tentative (kind_of status)))
+-- the run after an entry: an empty one more, or none
+abbrev pub after : RunSoFar → Entry → RunSoFar
+after r f = cond (is_area f) (absorb r f) (calm (is_tentative (kind f)))
 
 -- what an entry lets out: an empty one nothing, any other the run that it ends, and itself
 unfoldable pub let_out : RunSoFar → Entry → List Entry
 let_out r f = cond (is_area f) [] (flushed r ++ f ∷ [])
 
--- the words that a run leaves, and those that the slot at word k lets out
-abbrev pub left_of : List ℕ → ℕ → RunAt → List ℕ
-left_of g w run = flat (flushed (run_of g w run)) []
+-- the words that a run leaves, and those that an entry lets out
+abbrev pub left_of : RunSoFar → List ℕ
+left_of r = flat (flushed r) []
 
-abbrev pub out_of : List ℕ → ℕ → ℕ → RunAt → List ℕ
-out_of g w k run = flat (let_out (run_of g w run) (take w (drop k g))) []
-
--- the place q of the next write is not ahead of the next read at word k, and behind it by an entry where a run is open
-abbrev pub Behind : RunAt → ℕ → ℕ → ℕ → Type 0
-Behind (Calm p) w q k = q ≤ k
-Behind (Within j t p) w q k = (j + w ≤ k) × (q + w ≤ k) × (t ≤ 65535)
-
--- what the writers presume: a segment g and words to write to, both whole, slots of w words, the next read at word k and the next
--- write at q
-pub record Placed (g out : List ℕ) (w k q : ℕ) (run : RunAt) : Type 0 where
-  pub whole : length g ≡ 512
-  pub full : length out ≡ 512
-  pub wide : 7 ≤ w
-  pub narrow : w ≤ 23
-  pub inside : k ≤ 512
-  pub behind : Behind run w q k
+abbrev pub out_of : RunSoFar → Entry → List ℕ
+out_of r f = flat (let_out r f) []
 
 -- the entries es were written into b from q on, and the marker after them
 abbrev pub Finished : List ℕ → ℕ → List Entry → List ℕ → Type 0

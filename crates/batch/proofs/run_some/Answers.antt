@@ -10,9 +10,9 @@ returns c =
     let h : length a.requests ≡ 8 = c.well_formed.1.1.0.1.0.1 in
     let g : length a.answers ≡ 8 = c.well_formed.1.1.1.1.0.1.0.1 in
     let e = c.run_part.ensures in
-    let k = c.eight in
+    let k = c.min in
     let x = firsts a.requests a.n k.result h k.ensures in
-    let l = c.eight-2 in
+    let l = c.min-2 in
     let y = firsts a.answers a.m l.result g l.ensures in
     let z = rests a.answers a.m l.result g l.ensures in
     rw (← x, ← y, ← z) e

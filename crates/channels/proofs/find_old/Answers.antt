@@ -9,9 +9,6 @@ returns-then-is_spared c =
     let a = c.args in
     record { is = sym (ap found_of (no_old a.d.now a.name (sym c.is_spared.ensures ∙ c.if-is_spared.true))); inside = tt }
 
-pub find_entry-requires : goal.find_entry-requires
-find_entry-requires c = c.requires
-
 pub returns : goal.returns
 returns c =
     let a = c.args in

@@ -13,6 +13,3 @@ returns-then-number-ne0 c =
 
 pub lookup_sound-requires : goal.lookup_sound-requires
 lookup_sound-requires c = sym c.fault_of-number.ensures ∙ c.if-number-ne0.false
-
-pub returns : goal.returns
-returns c = c.lookup_sound.ensures

@@ -1,19 +1,21 @@
--- `enter_sound` meets its contract: the tests in order, each by its law (`Tested`), and then `enter_named` on a sound directory in which the
--- channel is free. What has passed is said once for each place.
-use native.Mathlib.Omega.{arith}
+-- `enter_sound` meets its contract: the tests in order, each by its law (`Tested`), and then `enter_file` on a sound directory in which the
+-- channel is free and no protected file has the name. What has passed is said once for each place.
 use mathlib.Core.Path.{◌≡◌, refl, sym, ap, ◌∙◌}
-use mathlib.Core.Bool.{true}
 use mir.Syntax.{w32}
 use mir.ValLaws.{to_z-of_z}
+use Rattle.std.proofs.lemmas.Result.{err_from_is_err_and}
 use Rattle.meaning.specs.Answers.{refuse}
-use Rattle.meaning.specs.Requests.{legal, good_channel, word_of}
+use Rattle.meaning.specs.Requests.{word_of}
 use Rattle.meaning.specs.Enter.{size_of, good_size}
 use Rattle.choice.specs.Asks.{size_by}
 use Rattle.chain.proofs.Chains.{fault-chained}
-use Rattle.find.proofs.Behind.{open_found, open_none}
-use Rattle.channels.proofs.Tested.{channel-fits}
-use Rattle.engine.proofs.Tested.{Call, Named, Passed, name_wrong, name-spared, channel_wrong, size_wrong_lem, date_wrong, in_use, let_in}
-use Rattle.engine.proofs.enter_sound.Goals.{After-is_channel, After-is_good_date, After-is_good_size, After-is_spared, After-size_of-asked, Else-not-is_good_date, Start}
+use Rattle.find.proofs.Behind.{passed-on, open_found, open_none, over-protected}
+use Rattle.files.proofs.Tested.{not_some}
+use Rattle.engine.specs.Named.{entering_named}
+use Rattle.engine.proofs.Tested.{Call, Named, Passed, outcome, name-bad, channel_wrong, size_wrong_lem, date_wrong, in_use, let_in}
+use Rattle.engine.proofs.Tested.{some_place, name-protected, name_free}
+use Rattle.engine.proofs.enter_sound.Goals.{After-is_good_size, Else-is_some, Else-not-is_good_date, In_ok-check_name, Start}
+use Rattle.engine.proofs.enter_sound.Goals.{then-not-is_good_size-via-then-not-is_good_size, then-not-is_good_size-via-else-not-is_good_size+then-not-is_good_date}
 use Rattle.engine.proofs.enter_sound.Goals as goal
 
 -- the call, by its arguments
@@ -29,105 +31,100 @@ call s = record {
   date = s.args.date;
 }
 
--- the name is legal where it is held to FILE.BAD, and has passed both tests where the channel is tested; the channel is good where the size
--- is read, which comes back from the machine's word as it was; the size is good where the date is tested
-lawful-at : (c : After-is_spared) → legal c.args.name ≡ true
-lawful-at c = sym c.is_legal.ensures ∙ c.if-not-is_legal.false
+-- the name has passed where the channel is tested; the size that was read comes back from the machine's word as it was; and where the
+-- channel's entry is looked for, all tests before it have passed
+named-at : (c : In_ok-check_name) → Named (call (goal.at.In_ok-check_name c).Start)
+named-at c = record { lawful = c.in_ok-check_name.ensures.0; plain = c.in_ok-check_name.ensures.1 }
 
-named-at : (c : After-is_channel) → Named (call (goal.at.After-is_channel c).Start)
-named-at c = record {
-  lawful = lawful-at (goal.at.After-is_channel c).After-is_spared;
-  plain = sym c.is_spared.ensures ∙ c.if-is_spared.false;
+size_back : (c : After-is_good_size) → size_by c.size_of-asked.result ≡ size_of c.args.size
+size_back c = c.size_of-asked.ensures ∙ ap size_of (to_z-of_z w32 c.args.size c.ranges.size)
+
+size-tested : (c : After-is_good_size) → good_size (size_of c.args.size) ≡ c.is_good_size.result
+size-tested c = sym (ap good_size (size_back c)) ∙ sym c.is_good_size.ensures
+
+passed-at : (c : Else-not-is_good_date) → Passed (call (goal.at.Else-not-is_good_date c).Start)
+passed-at c = record {
+  named = named-at (goal.at.Else-not-is_good_date c).In_ok-check_name;
+  channelled = c.in_ok-word.ensures.0;
+  sized = size-tested (goal.at.Else-not-is_good_date c).After-is_good_size ∙ c.if-not-is_good_size.false;
+  dated = sym c.is_good_date.ensures ∙ c.if-not-is_good_date.false;
 }
 
-abbrev begun : After-size_of-asked → Start
-begun z = (goal.at.After-size_of-asked z).Start
+-- the channel is free where the old file is looked for
+free-at : (c : Else-is_some)
+    → let a = c.args in outcome (call (goal.at.Else-is_some c).Start)
+    ≡ entering_named a.d.now a.name (size_by c.size_of-asked.result) c.in_ok-word.word a.date
+free-at c =
+    let a = c.args in
+    let w = c.in_ok-word.ensures.1 in
+    let none-there = rw w at (sym c.find_entry.ensures.is ∙ not_some _ (sym c.is_some.ensures ∙ c.if-is_some.false)) in
+    let n = open_none a.d.now (word_of a.job a.channel) none-there in
+    rw (
+      let_in (call (goal.at.Else-is_some c).Start) (passed-at (goal.at.Else-is_some c).Else-not-is_good_date) n,
+      ← size_back (goal.at.Else-is_some c).After-is_good_size,
+      ← w,
+    )
 
-channelled-at : (z : After-size_of-asked) → good_channel (begun z).args.job (begun z).args.channel ≡ true
-channelled-at z = sym z.is_channel.ensures ∙ z.if-not-is_channel.false
+pub returns-in_err-check_name : goal.returns-in_err-check_name
+returns-in_err-check_name c =
+    let p = err_from_is_err_and c.from_residual.result c.from_residual.ensures.1 in
+    rw (name-bad (call (goal.at.returns-in_err-check_name c).Start) _ c.in_err-check_name.ensures) (passed-on _ _ _ c.args.d.now p.1 p.2)
 
-size_back : (z : After-size_of-asked) → size_by z.size_of-asked.result ≡ size_of (begun z).args.size
-size_back z = z.size_of-asked.ensures ∙ ap size_of (to_z-of_z w32 (begun z).args.size (begun z).ranges.size)
-
-size-tested : (c : After-is_good_size) → good_size (size_of (begun (goal.at.After-is_good_size c).After-size_of-asked).args.size) ≡ c.is_good_size.result
-size-tested c = sym (ap good_size (size_back (goal.at.After-is_good_size c).After-size_of-asked)) ∙ sym c.is_good_size.ensures
-
-sized-at : (c : After-is_good_date) → good_size (size_of (begun (goal.at.After-is_good_date c).After-size_of-asked).args.size) ≡ true
-sized-at c = size-tested (goal.at.After-is_good_date c).After-is_good_size ∙ c.if-not-is_good_size.false
-
--- where the channel's entry is looked for, all tests before it have passed
-abbrev start : Else-not-is_good_date → Start
-start c = begun (goal.at.Else-not-is_good_date c).After-size_of-asked
-
-passed-at : (c : Else-not-is_good_date) → Passed (call (start c))
-passed-at c =
-    record {
-      named = named-at (goal.at.Else-not-is_good_date c).After-is_channel;
-      channelled = channelled-at (goal.at.Else-not-is_good_date c).After-size_of-asked;
-      sized = sized-at (goal.at.Else-not-is_good_date c).After-is_good_date;
-      dated = sym c.is_good_date.ensures ∙ c.if-not-is_good_date.false;
-    }
-
-pub returns-then-not-is_legal : goal.returns-then-not-is_legal
-unfolding refuse
-returns-then-not-is_legal c =
-    let q = call (goal.at.returns-then-not-is_legal c).Start in
-    rw (name_wrong q (sym c.is_legal.ensures ∙ c.if-not-is_legal.true))
-    (record { answer = c.refused.ensures; words = refl })
-
-pub returns-then-is_spared : goal.returns-then-is_spared
-unfolding refuse
-returns-then-is_spared c =
-    rw (name-spared (call (goal.at.returns-then-is_spared c).Start) (lawful-at (goal.at.returns-then-is_spared c).After-is_spared) (sym c.is_spared.ensures ∙ c.if-is_spared.true))
-    (record { answer = c.refused-then-is_spared.ensures; words = refl })
-
-pub returns-then-not-is_channel : goal.returns-then-not-is_channel
-unfolding refuse
-returns-then-not-is_channel c =
-    rw (channel_wrong (call (goal.at.returns-then-not-is_channel c).Start) (named-at (goal.at.returns-then-not-is_channel c).After-is_channel)
-    (sym c.is_channel.ensures ∙ c.if-not-is_channel.true))
-    (record { answer = c.refused-then-not-is_channel.ensures; words = refl })
+pub returns-in_err-word : goal.returns-in_err-word
+returns-in_err-word c =
+    let p = err_from_is_err_and c.from_residual-in_err-word.result c.from_residual-in_err-word.ensures.1 in
+    let f = c.in_err-word.ensures in
+    rw (channel_wrong (call (goal.at.returns-in_err-word c).Start) (named-at (goal.at.returns-in_err-word c).In_ok-check_name) f.0)
+    (rw f.1 at (passed-on _ _ _ c.args.d.now p.1 p.2))
 
 pub returns-then-not-is_good_size : goal.returns-then-not-is_good_size
 unfolding refuse
 returns-then-not-is_good_size c =
-    let e = size-tested (goal.at.returns-then-not-is_good_size c).After-is_good_size ∙ c.if-not-is_good_size.true in
-    rw (size_wrong_lem (call (begun (goal.at.returns-then-not-is_good_size c).After-size_of-asked)) (named-at (goal.at.returns-then-not-is_good_size c).After-is_channel) (channelled-at (goal.at.returns-then-not-is_good_size c).After-size_of-asked) e) (record { answer = c.refused-then-not-is_good_size.ensures; words = refl })
+    let q = call (goal.at.returns-then-not-is_good_size c).Start in
+    let n = named-at (goal.at.returns-then-not-is_good_size c).In_ok-check_name in
+    let k = c.in_ok-word.ensures.0 in
+    let t = size-tested (goal.at.returns-then-not-is_good_size c).After-is_good_size in
+    elim c.then-not-is_good_size.branch [
+      | then-not-is_good_size-via-then-not-is_good_size w ↦
+          rw (size_wrong_lem q n k (t ∙ w.if-not-is_good_size.true)) (record { answer = refl; words = refl })
+      | then-not-is_good_size-via-else-not-is_good_size+then-not-is_good_date w ↦
+          rw (date_wrong q n k (t ∙ w.if-not-is_good_size.false) (sym w.is_good_date.ensures ∙ w.if-not-is_good_date.true))
+          (record { answer = refl; words = refl })
+    ]
 
-pub returns-then-not-is_good_date : goal.returns-then-not-is_good_date
+pub find_entry-requires : goal.find_entry-requires
+find_entry-requires c = fault-chained c.args.v c.args.d.now c.requires
+
+pub returns-then-is_some : goal.returns-then-is_some
 unfolding refuse
-returns-then-not-is_good_date c =
-    let e = sym c.is_good_date.ensures ∙ c.if-not-is_good_date.true in
-    rw (date_wrong (call (begun (goal.at.returns-then-not-is_good_date c).After-size_of-asked)) (named-at (goal.at.returns-then-not-is_good_date c).After-is_channel) (channelled-at (goal.at.returns-then-not-is_good_date c).After-size_of-asked) (sized-at (goal.at.returns-then-not-is_good_date c).After-is_good_date) e)
-    (record { answer = c.refused-then-not-is_good_date.ensures; words = refl })
+returns-then-is_some c =
+    let a = c.args in
+    let p = some_place _ (sym c.is_some.ensures ∙ c.if-is_some.true) in
+    let there = rw c.in_ok-word.ensures.1 at (sym c.find_entry.ensures.is ∙ p.1) in
+    let b = open_found a.d.now (word_of a.job a.channel) p.0 there in
+    rw (in_use (call (goal.at.returns-then-is_some c).Start) (passed-at (goal.at.returns-then-is_some c).Else-not-is_good_date) (rw b.is))
+    (record { answer = refl; words = refl })
 
-pub overflow_mul-word : goal.overflow_mul-word
-overflow_mul-word c =
-    let l = channel-fits _ _ (channelled-at (goal.at.overflow_mul-word c).After-size_of-asked) in
-    omega arith
+pub find_old-old-requires : goal.find_old-old-requires
+find_old-old-requires c = fault-chained c.args.v c.args.d.now c.requires
 
-pub overflow_add-word : goal.overflow_add-word
-overflow_add-word c =
-    let l = channel-fits _ _ (channelled-at (goal.at.overflow_add-word c).After-size_of-asked) in
-    omega arith
-
-pub find_entry-found-requires : goal.find_entry-found-requires
-find_entry-found-requires c = let s = start c in fault-chained s.args.v s.args.d.now s.requires
-
-pub enter_named-requires : goal.enter_named-requires
-enter_named-requires c = (start (goal.at.enter_named-requires c).Else-not-is_good_date).requires
-
-pub returns-in-At : goal.returns-in-At
+pub returns-then-is_protected : goal.returns-then-is_protected
 unfolding refuse
-returns-in-At c =
-    let s = start (goal.at.returns-in-At c).Else-not-is_good_date in
-    let b = open_found s.args.d.now (word_of s.args.job s.args.channel) _ (sym c.find_entry-found.ensures.is ∙ c.in-At.is) in
-    rw (in_use (call s) (passed-at (goal.at.returns-in-At c).Else-not-is_good_date) (rw b.is)) (record { answer = c.refused-in-At.ensures; words = refl })
+returns-then-is_protected c =
+    let a = c.args in
+    let u = over-protected a.d.now a.name _ _ c.find_old-old.ensures.is (sym c.if-is_protected.true ∙ c.is_protected.ensures) in
+    rw (
+      free-at (goal.at.returns-then-is_protected c).Else-is_some,
+      name-protected a.d.now a.name (size_by c.size_of-asked.result) c.in_ok-word.word a.date u,
+    )
+    (record { answer = refl; words = refl })
 
-pub returns-in-Nothing : goal.returns-in-Nothing
-returns-in-Nothing c =
-    let s = start (goal.at.returns-in-Nothing c).Else-not-is_good_date in
-    let w = word_of s.args.job s.args.channel in
-    let n = open_none s.args.d.now w (sym c.find_entry-found.ensures.is ∙ c.in-Nothing.is) in
-    let back = size_back (goal.at.returns-in-Nothing c).After-size_of-asked in
-    rw (let_in (call s) (passed-at (goal.at.returns-in-Nothing c).Else-not-is_good_date) n, ← back) c.enter_named.ensures
+pub returns : goal.returns
+returns c =
+    let a = c.args in
+    let u = over-protected a.d.now a.name _ _ c.find_old-old.ensures.is (sym c.if-is_protected.false ∙ c.is_protected.ensures) in
+    rw (
+      free-at (goal.at.returns c).Else-is_some,
+      name_free a.d.now a.name (size_by c.size_of-asked.result) c.in_ok-word.word a.date u,
+    )
+    c.enter_file.ensures

@@ -4,17 +4,14 @@ use borrow.Author.Tests.{not-true, not-false}
 use Rattle.meaning.specs.Answers.{refuse}
 use Rattle.enter.proofs.Ready.{tidyable}
 use Rattle.enter.proofs.Surveyed.{Asking, short, slotless, fits, roomy}
-use Rattle.enter.proofs.enter_file.Goals.{After-survey_areas-found, Start}
+use Rattle.enter.proofs.enter_file.Goals.{After-survey_areas-found}
 use Rattle.enter.proofs.enter_file.Goals as goal
 
 -- what is asked for, where the areas have been surveyed
-abbrev start : After-survey_areas-found → Start
-start k = (goal.at.After-survey_areas-found k).Start
-
 abbrev asking : After-survey_areas-found → Asking
 asking k = record {
-  d = (start k).args.d.now;
-  asked = (start k).args.asked;
+  d = k.args.d.now;
+  asked = k.args.asked;
   least = k.at_least.result;
   is_least = k.at_least.ensures;
   survey = k.survey_areas-found.result.areas;
@@ -27,24 +24,24 @@ survey_areas-found-requires c = tidyable c.args.v c.args.d.now c.requires
 pub returns-then-not-areas : goal.returns-then-not-areas
 unfolding refuse
 returns-then-not-areas c =
-    let a = (start (goal.at.returns-then-not-areas c).After-survey_areas-found).args in
-    rw (short (asking (goal.at.returns-then-not-areas c).After-survey_areas-found) (not-true _ c.if-not-areas.true) a.name a.channel a.date)
-    (record { answer = c.refused.ensures; words = refl })
+    let q = asking (goal.at.returns-then-not-areas c).After-survey_areas-found in
+    rw (short q (not-true _ c.if-not-areas.true) c.args.name c.args.channel c.args.date) (record { answer = refl; words = refl })
 
 pub returns-then-not-areas-2 : goal.returns-then-not-areas-2
 unfolding refuse
 returns-then-not-areas-2 c =
-    let a = (start (goal.at.returns-then-not-areas-2 c).After-survey_areas-found).args in
-    rw (slotless (asking (goal.at.returns-then-not-areas-2 c).After-survey_areas-found) (not-false _ c.if-not-areas.false) (not-true _ c.if-not-areas-2.true) a.name a.channel a.date)
-    (record { answer = c.refused-then-not-areas-2.ensures; words = refl })
+    let q = asking (goal.at.returns-then-not-areas-2 c).After-survey_areas-found in
+    let long = not-false _ c.if-not-areas.false in
+    rw (slotless q long (not-true _ c.if-not-areas-2.true) c.args.name c.args.channel c.args.date) (record { answer = refl; words = refl })
 
 pub place_file-requires : goal.place_file-requires
 place_file-requires c =
-    let room = fits (asking (goal.at.place_file-requires c).After-survey_areas-found) (not-false _ c.if-not-areas.false) (not-false _ c.if-not-areas-2.false) _ c.wanted_of-blocks.ensures in
-    ((start (goal.at.place_file-requires c).After-survey_areas-found).requires, c.survey_areas-found.ensures.untidy, room)
+    let q = asking (goal.at.place_file-requires c).After-survey_areas-found in
+    let room = fits q (not-false _ c.if-not-areas.false) (not-false _ c.if-not-areas-2.false) _ c.wanted_of-length.ensures in
+    (c.requires, c.survey_areas-found.ensures.untidy, room)
 
 pub returns : goal.returns
 returns c =
-    let a = (start (goal.at.returns c).After-survey_areas-found).args in
-    let room = roomy (asking (goal.at.returns c).After-survey_areas-found) (not-false _ c.if-not-areas.false) (not-false _ c.if-not-areas-2.false) _ c.wanted_of-blocks.ensures in
-    rw (room a.name a.channel a.date) c.place_file.ensures
+    let q = asking (goal.at.returns c).After-survey_areas-found in
+    let room = roomy q (not-false _ c.if-not-areas.false) (not-false _ c.if-not-areas-2.false) _ c.wanted_of-length.ensures in
+    rw (room c.args.name c.args.channel c.args.date) c.place_file.ensures

@@ -5,13 +5,10 @@ use Rattle.survey.proofs.Along.{tidied-already}
 use Rattle.enter.proofs.Ready.{tidyable}
 use Rattle.enter.proofs.tidy_if.Goals as goal
 
-pub returns-then-not-untidy : goal.returns-then-not-untidy
-returns-then-not-untidy c =
-    let d = c.args.d.now in
-    sym (tidied-already d (chain d) (sym c.requires.1 ∙ c.if-not-untidy.true))
-
 pub tidy_all-requires : goal.tidy_all-requires
 tidy_all-requires c = tidyable c.args.v c.args.d.now c.requires.0
 
-pub returns : goal.returns
-returns c = c.tidy_all.ensures.is
+pub returns-else-untidy : goal.returns-else-untidy
+returns-else-untidy c =
+    let d = c.args.d.now in
+    sym (tidied-already d (chain d) (sym c.requires.1 ∙ c.if-untidy.false))

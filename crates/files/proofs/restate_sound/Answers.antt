@@ -1,22 +1,15 @@
--- `restate_sound` meets its contract: the tests of the name give one number, which refuses it or is 0, and then `restate_found` does the
--- rest with the name's key.
-use mathlib.Core.Path.{refl}
-use Rattle.meaning.specs.Answers.{refuse}
-use Rattle.files.proofs.Tested.{number-refuses, number-passes, restate-named}
+-- `restate_sound` meets its contract: the tests of the name refuse it, or let it pass, and then `restate_found` does the rest with the name's
+-- key.
+use Rattle.std.proofs.lemmas.Result.{err_from_is_err_and}
+use Rattle.find.proofs.Behind.{passed-on}
+use Rattle.files.proofs.Tested.{restate-bad, restate-good}
 use Rattle.files.proofs.restate_sound.Goals as goal
 
-pub returns-then-number-ne0 : goal.returns-then-number-ne0
-unfolding refuse
-returns-then-number-ne0 c =
-    let d = c.args.d.now in
-    rw (restate-named c.args.v d c.requires c.args.name c.args.status, number-refuses _ _ d _ c.name_refusal-number.ensures c.if-number-ne0.true)
-    (record { answer = c.refused.ensures; words = refl })
-
-pub restate_found-requires : goal.restate_found-requires
-restate_found-requires c = c.requires
+pub returns-in_err-check_name : goal.returns-in_err-check_name
+returns-in_err-check_name c =
+    let a = c.args in
+    let p = err_from_is_err_and c.from_residual.result c.from_residual.ensures.1 in
+    rw (restate-bad a.v a.d.now c.requires a.name a.status _ c.in_err-check_name.ensures) (passed-on _ _ _ a.d.now p.1 p.2)
 
 pub returns : goal.returns
-returns c =
-    let d = c.args.d.now in
-    rw (restate-named c.args.v d c.requires c.args.name c.args.status, number-passes _ _ d _ c.name_refusal-number.ensures c.if-number-ne0.false)
-    c.restate_found.ensures
+returns c = rw (restate-good c.args.v c.args.d.now c.requires c.args.name c.args.status c.in_ok-check_name.ensures) c.restate_found.ensures

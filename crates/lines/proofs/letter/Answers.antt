@@ -1,33 +1,16 @@
--- `letter` meets its contract: three kinds have a letter, which is one byte (law `one`), and two have none.
+-- `letter` meets its contract: three kinds have a letter, which is one byte (law `one`).
 use native.Mathlib.Omega.{arith}
 use Rattle.names.specs.Text.{bytes}
-use Rattle.lines.proofs.Writes.{none, one}
+use Rattle.lines.proofs.Writes.{one}
+use Rattle.lines.proofs.letter.Goals.{in-Tentative, in-Empty, in-Permanent}
 use Rattle.lines.proofs.letter.Goals as goal
 
-pub returns-in-Tentative : goal.returns-in-Tentative
+pub returns : goal.returns
 unfolding bytes
-returns-in-Tentative c =
+returns c =
     let a = c.args in
-    rw c.in-Tentative.is (record { wrote = one a.out.now a.at 84 (omega arith); short = omega arith })
-
-pub returns-in-Empty : goal.returns-in-Empty
-unfolding bytes
-returns-in-Empty c =
-    let a = c.args in
-    rw c.in-Empty.is (record { wrote = one a.out.now a.at 69 (omega arith); short = omega arith })
-
-pub returns-in-Permanent : goal.returns-in-Permanent
-unfolding bytes
-returns-in-Permanent c =
-    let a = c.args in
-    rw c.in-Permanent.is (record { wrote = one a.out.now a.at 80 (omega arith); short = omega arith })
-
-pub returns-in-End : goal.returns-in-End
-returns-in-End c =
-    let a = c.args in
-    rw c.in-End.is (record { wrote = none a.out.now a.at (omega arith); short = omega arith })
-
-pub returns-in-Unknown : goal.returns-in-Unknown
-returns-in-Unknown c =
-    let a = c.args in
-    rw c.in-Unknown.is (record { wrote = none a.out.now a.at (omega arith); short = omega arith })
+    elim c.match-kind.branch [
+      | in-Tentative w ↦ rw (w.in-Tentative.is, w.out-is) (record { wrote = one a.out.now a.at 84 (omega arith); short = omega arith })
+      | in-Empty w ↦ rw (w.in-Empty.is, w.out-is) (record { wrote = one a.out.now a.at 69 (omega arith); short = omega arith })
+      | in-Permanent w ↦ rw (w.in-Permanent.is, w.out-is) (record { wrote = one a.out.now a.at 80 (omega arith); short = omega arith })
+    ]

@@ -6,6 +6,6 @@ pub returns-then-is_empty : goal.returns-then-is_empty
 unfolding row_date
 returns-then-is_empty c = rw (← c.is_empty.ensures, c.if-is_empty.true)
 
-pub returns : goal.returns
+pub returns-else-is_empty : goal.returns-else-is_empty
 unfolding row_date
-returns c = rw (← c.is_empty.ensures, c.if-is_empty.false)
+returns-else-is_empty c = rw (← c.is_empty.ensures, c.if-is_empty.false)

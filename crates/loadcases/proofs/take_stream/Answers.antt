@@ -1,6 +1,6 @@
--- `take_stream` meets its contract: the run ends at a stream that is too long, or what the reader answers follows.
-use Rattle.cases.proofs.Follow.{ended_follows}
+-- `take_stream` meets its contract: the pieces follow on the stream's bytes (law `then`).
+use Rattle.cases.proofs.Reading.{then}
 use Rattle.loadcases.proofs.take_stream.Goals as goal
 
-pub returns-then-n-gt-BYTES : goal.returns-then-n-gt-BYTES
-returns-then-n-gt-BYTES g c = ended_follows _ _ c.refused.ensures
+pub returns : goal.returns
+returns g c = then _ _ c.in_ok-read_counted.ensures c.take_pieces.ensures

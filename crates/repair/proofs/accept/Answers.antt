@@ -22,8 +22,8 @@ returns-then-is_passing c =
     let f = c.fault_of-number.ensures in
     test_passes a.v a.d.now a.w.now (sym (ap beyond f) ∙ sym c.is_beyond.ensures ∙ c.if-is_beyond.false) (sym c.is_passing.ensures ∙ c.if-is_passing.true)
 
-pub returns : goal.returns
-returns c =
+pub returns-else-is_passing : goal.returns-else-is_passing
+returns-else-is_passing c =
     let a = c.args in
     let f = c.fault_of-number.ensures in
     test_fails a.v a.d.now a.w.now (sym (ap beyond f) ∙ sym c.is_beyond.ensures ∙ c.if-is_beyond.false) (sym c.is_passing.ensures ∙ c.if-is_passing.false)

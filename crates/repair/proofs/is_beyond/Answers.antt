@@ -1,13 +1,21 @@
--- `is_beyond` meets its contract: 6 is beyond repair, 0 is no damage, and of the others 1 to 3 are.
+-- `is_beyond` meets its contract, case by case.
 use native.Mathlib.Omega.{arith}
-use Rattle.repair.proofs.Judged.{six-beyond, none-beyond, low-beyond}
+use Rattle.std.proofs.lemmas.Grind.{common_steps}
+use Rattle.repaired.specs.Kept.{beyond}
 use Rattle.repair.proofs.is_beyond.Goals as goal
 
-pub returns-then-number-eq6 : goal.returns-then-number-eq6
-returns-then-number-eq6 c = six-beyond _ c.if-number-eq6.true
+pub returns-in_default : goal.returns-in_default
+unfolding beyond
+returns-in_default c = grind (arith, common_steps)
 
-pub returns-then-number-lt1 : goal.returns-then-number-lt1
-returns-then-number-lt1 c = none-beyond _ c.if-number-eq6.false c.if-number-lt1.true
+pub returns-in_default-2 : goal.returns-in_default-2
+unfolding beyond
+returns-in_default-2 c = grind (arith, common_steps)
 
-pub returns : goal.returns
-returns c = low-beyond _ c.if-number-eq6.false (omega (arith, c.if-number-lt1.false))
+pub returns-in-1-to-3 : goal.returns-in-1-to-3
+unfolding beyond
+returns-in-1-to-3 c = grind (arith, common_steps)
+
+pub returns-in-1-to-3-2 : goal.returns-in-1-to-3-2
+unfolding beyond
+returns-in-1-to-3-2 c = grind (arith, common_steps)

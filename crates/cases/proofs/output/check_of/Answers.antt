@@ -3,15 +3,15 @@ use Rattle.std.proofs.Common.{◌<◌, ◌≤◌, length, rules}
 use Rattle.cases.proofs.Checked.{begins, goes_on_lem, ends}
 use Rattle.cases.proofs.output.check_of.Goals as goal
 
-pub loop-i-init : goal.loop-i-init
-loop-i-init c = begins _
+pub loop-word-init : goal.loop-word-init
+loop-word-init c = begins _
 
-pub loop-i-preserved : goal.loop-i-preserved
-loop-i-preserved c =
-    let h : c.loop-i.i < length c.args.words.now = search rules in
-    goes_on_lem _ _ _ _ h c.loop-i.invariant c.added-sums.ensures
+pub loop-word-preserved : goal.loop-word-preserved
+loop-word-preserved c =
+    let h : c.loop-word.word-index < length c.args.words.now = search rules in
+    goes_on_lem _ _ _ _ h c.loop-word.invariant c.added-sums.ensures
 
 pub returns : goal.returns
 returns c =
-    let h : length c.args.words.now ≤ c.loop-i.i = search rules in
-    ends _ _ _ h c.loop-i.invariant
+    let h : length c.args.words.now ≤ c.loop-word.word-index = search rules in
+    ends _ _ _ h c.loop-word.invariant

@@ -1,10 +1,6 @@
 -- `check_of` meets its contract: what is left of the words, with both sums so far, gives the check of all (Checked).
-use Rattle.std.proofs.Common.{◌-◌, length}
 use Rattle.cases.proofs.Checked.{Checking}
 use Rattle.cases.proofs.output.check_of.Given as goal
 
-abbrev pub invariant-loop-i : goal.invariant-loop-i
-invariant-loop-i l = Checking l.words l.sums l.i
-
-abbrev pub decreases-loop-i : goal.decreases-loop-i
-decreases-loop-i l = length l.words - l.i
+abbrev pub invariant-loop-word : goal.invariant-loop-word
+invariant-loop-word l = Checking l.words l.sums l.word-index

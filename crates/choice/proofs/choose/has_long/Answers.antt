@@ -1,56 +1,16 @@
--- `has_long` meets its contract: the loop keeps `Looking`, that what is found among the entries ahead is what is found among all,
--- and its measure is the slots left.
-use native.Mathlib.Omega.{arith}
-use mathlib.Core.Path.{sym, ◌∙◌}
-use Prim.Native.Nat.{◌+◌, ◌≤◌}
-use Rattle.segment.proofs.Looking.{looking, look_over, look_fits, look_end, look_found, look_on}
-use Rattle.choice.proofs.Longs.{long_test, long-found, any-before}
-use Rattle.choice.proofs.choose.has_long.Goals.{In-loop-left}
+-- `has_long` meets its contract: the entries that the iterator gives are those of the segment.
+use mathlib.Core.Path.{◌∙◌}
+use Rattle.std.proofs.Common.{rules, tests}
+use Rattle.std.proofs.lemmas.Iterator.Consumers.{YieldsList-from_first}
+use Rattle.std.proofs.lemmas.Iterator.Search.{any_from_yields_List}
+use Rattle.segment.specs.Entries.{ahead}
+use Rattle.choice.specs.Judged.{long_entry}
+use Rattle.choice.proofs.Longs.{any-long}
 use Rattle.choice.proofs.choose.has_long.Goals as goal
 
--- the slot at hand lies in the segment
-slot-fits : (c : In-loop-left) → c.loop-left.word + c.args.width ≤ 512
-slot-fits c = omega (arith, look_fits c.loop-left.invariant c.loop-left-test.true)
-
-pub nonzero_div-left : goal.nonzero_div-left
-nonzero_div-left c = omega (arith, c.requires.1)
-
-pub loop-left-init : goal.loop-left-init
-loop-left-init c = let a = c.args in looking (long_test a.least) a.segment.now a.width 0 _ (long-found a.least _ _)
-
-pub offset_bounds-segment-word : goal.offset_bounds-segment-word
-offset_bounds-segment-word c = omega (arith, slot-fits c)
-
-pub bounds-segment-word : goal.bounds-segment-word
-bounds-segment-word c = omega (arith, slot-fits (goal.at.bounds-segment-word c).In-loop-left)
-
-pub returns-then-is_marker : goal.returns-then-is_marker
-returns-then-is_marker c =
-    look_end c.loop-left.invariant c.loop-left-test.true c.requires.1
-    (sym c.is_marker.ensures ∙ c.if-is_marker.true)
-
-pub overflow_add-word : goal.overflow_add-word
-overflow_add-word c = omega (arith, slot-fits (goal.at.overflow_add-word c).In-loop-left)
-
-pub offset_bounds-segment-word-in-loop-left : goal.offset_bounds-segment-word-in-loop-left
-offset_bounds-segment-word-in-loop-left c = omega (arith, slot-fits (goal.at.offset_bounds-segment-word-in-loop-left c).In-loop-left)
-
-pub bounds-segment-word-in-loop-left : goal.bounds-segment-word-in-loop-left
-bounds-segment-word-in-loop-left c = omega (arith, slot-fits (goal.at.bounds-segment-word-in-loop-left c).In-loop-left)
-
-pub returns-then-is_long : goal.returns-then-is_long
-returns-then-is_long c =
-    look_found c.loop-left.invariant c.loop-left-test.true c.requires.1
-    (sym c.is_marker.ensures ∙ c.if-is_marker.false) (sym c.is_long.ensures ∙ c.if-is_long.true)
-
-pub overflow_add-word-in-loop-left : goal.overflow_add-word-in-loop-left
-overflow_add-word-in-loop-left c = omega (arith, slot-fits (goal.at.overflow_add-word-in-loop-left c).In-loop-left)
-
-pub loop-left-preserved : goal.loop-left-preserved
-loop-left-preserved c =
-    any-before _
-    (look_on c.loop-left.invariant c.loop-left-test.true c.requires.1
-    (sym c.is_marker.ensures ∙ c.if-is_marker.false) (sym c.is_long.ensures ∙ c.if-is_long.false))
-
 pub returns : goal.returns
-returns c = look_over c.loop-left.invariant c.loop-left-test.false
+returns c =
+    let a = c.args in
+    any_from_yields_List (long_entry a.least) c.any.new.self _ c.any.result c.any.ensures.ran
+    (YieldsList-from_first (λ e. e.words.now) (λ s. ahead s.width s.rest.now) _ c.entries_of.ensures.left) (λ x b q k. search (rules, tests))
+    ∙ any-long a.least _

@@ -1,5 +1,4 @@
 -- `fresh_segment` meets its contract: a return for the rest as they are, and one for the area among them.
-use borrow.Author.Rules.{rules}
 use native.Mathlib.Omega.{arith}
 use mathlib.Core.Path.{refl}
 use Rattle.insert.proofs.Halving.{rooms, front-room, back-before, back_fits, first_small, fresh_asks, fresh-inserted, fresh-plain}
@@ -59,7 +58,7 @@ slice_bounds-slots-end c =
 pub plain_segment-requires : goal.plain_segment-requires
 plain_segment-requires c =
     let h = c.requires in
-    (search rules, back_fits h.0 c.args.count h.1)
+    back_fits h.0 c.args.count h.1
 
 pub returns-then-spot-kept : goal.returns-then-spot-kept
 returns-then-spot-kept c =
@@ -76,11 +75,10 @@ overflow_sub-spot c =
 pub inserted_segment-requires : goal.inserted_segment-requires
 inserted_segment-requires c =
     let h = c.requires in
-    let k = fresh_asks h.0 c.args.count h.1 c.if-spot-kept.false in
-    (search rules, k.0, k.1)
+    fresh_asks h.0 c.args.count h.1 c.if-spot-kept.false
 
-pub returns : goal.returns
-returns c =
+pub returns-else-spot-kept : goal.returns-else-spot-kept
+returns-else-spot-kept c =
     let a = c.args in
     let h = c.requires in
     let l = c.sum_lengths in

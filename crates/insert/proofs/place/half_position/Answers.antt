@@ -7,6 +7,6 @@ pub returns-then-spot-kept : goal.returns-then-spot-kept
 unfolding half_at
 returns-then-spot-kept c = rw (lt-ltb _ _ c.if-spot-kept.true) c.new_after.ensures
 
-pub returns : goal.returns
+pub returns-else-spot-kept : goal.returns-else-spot-kept
 unfolding half_at
-returns c = rw (le-ltb _ _ c.if-spot-kept.false) c.new_after-2.ensures
+returns-else-spot-kept c = rw (le-ltb _ _ c.if-spot-kept.false) c.new_after-else-spot-kept.ensures

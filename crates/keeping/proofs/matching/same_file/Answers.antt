@@ -1,28 +1,65 @@
--- `same_file` meets its contract: the first block, then the words that a file keeps, are compared, and the first that differs decides.
-use Rattle.keeping.proofs.Alike.{named_by, other_first, other_status, other_name, other_length, by_date}
+-- `same_file` meets its contract: the first block, then the words that a file keeps, are compared, each where all before it are the same.
+use mathlib.Core.Path.{◌≡◌, refl}
+use mathlib.Core.Bool.{◌&&◌}
+use lib.Dec.{eqb}
+use lib.ListN.{get_or}
+use borrow.Author.Tests.{eq-eqb, ne_eqb}
+use Rattle.meaning.specs.Words.{name_of, same_name, blocks}
+use Rattle.segment.proofs.Named.{same_words}
+use Rattle.keeping.proofs.Alike.{alike_by}
+use Rattle.keeping.proofs.matching.same_file.Goals.{Joined-x-y, Joined-status, Joined-eq, then-x-y, else-x-y, then-status, else-status, then-eq, else-eq}
 use Rattle.keeping.proofs.matching.same_file.Goals as goal
 
-pub returns-then-x-y : goal.returns-then-x-y
-returns-then-x-y c =
-    let a = c.args in
-    other_first a.d.now a.x a.w.now a.y c.if-x-y.true
+statuses : (c : Joined-x-y)
+    → c.if-x-y.value
+    ≡ eqb c.args.x.now.first c.args.y.now.first && eqb (get_or c.entry-p.result.words.now 0 0) (get_or c.entry-q.result.words.now 0 0)
+statuses c = elim c.if-x-y.branch [
+  | then-x-y w ↦ rw (w.value-is, eq-eqb _ _ w.if-x-y.true, w.status.ensures, w.status-then-x-y.ensures) refl
+  | else-x-y w ↦ rw (w.value-is, ne_eqb _ _ w.if-x-y.false) refl
+]
 
-pub returns-then-d-p : goal.returns-then-d-p
-returns-then-d-p c =
-    let a = c.args in
-    other_status a.d.now a.x a.w.now a.y c.if-x-y.false c.if-d-p.true
+names : (c : Joined-status)
+    → c.if-status.value ≡ c.if-x-y.value && same_name (name_of c.entry-p.result.words.now) (name_of c.entry-q.result.words.now)
+names c = elim c.if-status.branch [
+  | then-status w ↦
+      rw (w.value-is, w.if-status.true, w.eq.ensures, ← w.name.ensures, ← w.name-then-status.ensures)
+      (same_words w.name.result w.name-then-status.result)
+  | else-status w ↦ rw (w.value-is, w.if-status.false) refl
+]
 
-pub returns-then-not-is_named : goal.returns-then-not-is_named
-returns-then-not-is_named c =
-    let a = c.args in
-    other_name a.d.now a.x a.w.now a.y c.if-x-y.false c.if-d-p.false (named_by a.d.now a.x a.w.now a.y c.name_at.ensures c.is_named.ensures (c.if-not-is_named.true))
+lengths : (c : Joined-eq)
+    → c.if-eq.value ≡ c.if-status.value && eqb (blocks c.entry-p.result.words.now) (blocks c.entry-q.result.words.now)
+lengths c = elim c.if-eq.branch [
+  | then-eq w ↦ rw (w.value-is, w.if-eq.true, w.blocks-then-eq.ensures, w.blocks-then-eq-2.ensures) refl
+  | else-eq w ↦ rw (w.value-is, w.if-eq.false) refl
+]
 
-pub returns-then-d-p-2 : goal.returns-then-d-p-2
-returns-then-d-p-2 c =
-    let a = c.args in
-    other_length a.d.now a.x a.w.now a.y c.if-x-y.false c.if-d-p.false (named_by a.d.now a.x a.w.now a.y c.name_at.ensures c.is_named.ensures (c.if-not-is_named.false)) c.if-d-p-2.true
+four : (c : Joined-eq)
+    → c.if-eq.value
+    ≡ ((eqb c.args.x.now.first c.args.y.now.first && eqb (get_or c.entry-p.result.words.now 0 0) (get_or c.entry-q.result.words.now 0 0))
+    && same_name (name_of c.entry-p.result.words.now) (name_of c.entry-q.result.words.now))
+    && eqb (blocks c.entry-p.result.words.now) (blocks c.entry-q.result.words.now)
+four c =
+    let s = (goal.at.Joined-eq c).Joined-status in
+    let x = (goal.at.Joined-status s).Joined-x-y in
+    rw (lengths c, names s, statuses x) refl
 
-pub returns : goal.returns
-returns c =
+pub returns-then-blocks : goal.returns-then-blocks
+returns-then-blocks c =
     let a = c.args in
-    by_date a.d.now a.x a.w.now a.y c.if-x-y.false c.if-d-p.false (named_by a.d.now a.x a.w.now a.y c.name_at.ensures c.is_named.ensures (c.if-not-is_named.false)) c.if-d-p-2.false
+    rw (
+      c.date.ensures,
+      c.date-then-blocks.ensures,
+      ← alike_by a.d.now a.x.now a.w.now a.y.now c.entry-p.result.words.now c.entry-q.result.words.now c.entry-p.ensures c.entry-q.ensures,
+      ← four (goal.at.returns-then-blocks c).Joined-eq,
+      c.if-blocks.true,
+    ) refl
+
+pub returns-else-blocks : goal.returns-else-blocks
+returns-else-blocks c =
+    let a = c.args in
+    rw (
+      ← alike_by a.d.now a.x.now a.w.now a.y.now c.entry-p.result.words.now c.entry-q.result.words.now c.entry-p.ensures c.entry-q.ensures,
+      ← four (goal.at.returns-else-blocks c).Joined-eq,
+      c.if-blocks.false,
+    ) refl

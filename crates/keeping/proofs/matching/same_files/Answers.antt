@@ -1,8 +1,6 @@
 -- `same_files` meets its contract: the loop keeps `Matching`, that what is left of both lists is the same as both were.
-use native.Mathlib.Omega.{arith}
 use mathlib.Core.Path.{sym}
-use Prim.Native.Nat.{◌-◌}
-use Rattle.keeping.proofs.Taking.{matching, unlike_length, match_over, match_none, match_on, file-fits}
+use Rattle.keeping.proofs.Taking.{matching, unlike_length, match_over, match_none, match_on, file-fits, others-fit}
 use Rattle.keeping.proofs.matching.same_files.Goals as goal
 
 pub returns-then-files-table : goal.returns-then-files-table
@@ -18,22 +16,15 @@ loop-i-init c =
 pub take_out-requires : goal.take_out-requires
 take_out-requires c =
     let m = c.loop-i.invariant in
-    (file-fits m c.loop-i-test.true, m.others, omega (arith, m.few, m.size))
-
-pub shape_of-table-then-not-take_out : goal.shape_of-table-then-not-take_out
-shape_of-table-then-not-take_out c =
-    omega (arith, c.take_out.ensures.size, c.loop-i.invariant.size, c.if-files-table.false)
+    (file-fits m c.loop-i-test.true _, others-fit m c.loop-i-test.true (record { first = 0; at = 0 }))
 
 pub returns-then-not-take_out : goal.returns-then-not-take_out
 returns-then-not-take_out c =
-    match_none c.loop-i.invariant c.loop-i-test.true c.take_out.ensures (c.if-not-take_out.true)
+    match_none c.loop-i.invariant c.loop-i-test.true _ c.take_out.ensures c.if-not-take_out.true
 
 pub loop-i-preserved : goal.loop-i-preserved
 loop-i-preserved c =
-    match_on c.loop-i.invariant c.loop-i-test.true c.take_out.ensures (c.if-not-take_out.false)
-
-pub shape_of-table : goal.shape_of-table
-shape_of-table c = omega (arith, c.loop-i.invariant.size, c.if-files-table.false)
+    match_on c.loop-i.invariant c.loop-i-test.true _ c.take_out.ensures c.if-not-take_out.false
 
 pub returns : goal.returns
 returns c = match_over c.loop-i.invariant c.loop-i-test.false

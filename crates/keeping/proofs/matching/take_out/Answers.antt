@@ -1,39 +1,45 @@
--- `take_out` meets its contract: the loop keeps `Taking`, that with the first alike taken out of what is ahead the table is the same at each turn.
+-- `take_out` meets its contract: the first alike is at the position found, and those before it move up by one.
 use native.Mathlib.Omega.{arith}
-use mathlib.Core.Path.{sym, ◌∙◌}
+use mathlib.Core.Path.{◌≡◌, refl, sym, ap, ◌∙◌}
+use lib.ListN.{drop}
 use mathlib.Core.Bool.{true≢false}
-use Prim.Native.Nat.{◌-◌}
+use Rattle.std.proofs.Common.{rules, tests}
+use Rattle.std.specs.List.{position_from}
+use Rattle.std.proofs.lemmas.Iterator.Adapters.{serves_from_places, position_from-zero}
+use Rattle.std.proofs.lemmas.Iterator.Search.{position_from_yields_List}
+use Rattle.std.proofs.lemmas.Iterator.{YieldsList-from_slice}
+use Rattle.walks.proofs.Alls.{all-at}
 use Rattle.keeping.specs.Tables.{Within, alike}
-use Rattle.keeping.proofs.Taking.{taking, taken_none, there-fits, here_found, here_taken, here-size, taken_on}
+use Rattle.keeping.proofs.Taking.{none_at, first_at, moved_up}
+use Rattle.keeping.proofs.matching.take_out.Goals.{After-position}
 use Rattle.keeping.proofs.matching.take_out.Goals as goal
 
-pub loop-i-init : goal.loop-i-init
-loop-i-init c =
+pub position-requires-clause-callable : goal.position-requires-clause-callable
+position-requires-clause-callable c =
+    let w = c.args.w.now in
+    serves_from_places (YieldsList-from_slice c.args.table.now c.iter.ensures.rest) (λ x q k. search (rules, tests))
+    (λ x k h e. let there : Within w x.now = rw (← e) at (all-at (Within w) c.args.table.now c.requires.1 k h x.now) in search rules)
+
+-- the position is that of the first alike
+spot : (c : After-position) → c.position.result ≡ position_from (alike c.args.d.now c.args.x.now c.args.w.now) 0 c.args.table.now
+spot c =
     let a = c.args in
-    taking (Within a.w.now) (alike a.d.now a.x a.w.now) a.x a.table.now a.place c.requires.2 c.requires.1
+    position_from_yields_List (alike a.d.now a.x.now a.w.now) _ _ c.position.result c.position.ensures.ran
+    (YieldsList-from_slice a.table.now c.iter.ensures.rest) (λ x b q k. search (rules, tests))
+    ∙ position_from-zero (alike a.d.now a.x.now a.w.now) a.table.now
 
-pub same_file-requires : goal.same_file-requires
-same_file-requires c =
-    (c.requires.0, there-fits c.loop-i.invariant c.loop-i-test.true)
-
-pub returns-then-same_file : goal.returns-then-same_file
-returns-then-same_file c =
-    let l = c.loop-i.invariant in
-    let h = c.loop-i-test.true in
-    let e = sym c.same_file.ensures ∙ c.if-same_file.true in
-    record { found = here_found l h e; numbers = λ _. here_taken l h e; size = here-size l h }
-
-pub loop-i-smaller : goal.loop-i-smaller
-loop-i-smaller c =
-    omega (arith, c.loop-i.invariant.size, c.loop-i-test.true)
-
-pub loop-i-preserved : goal.loop-i-preserved
-loop-i-preserved c =
-    let l = c.loop-i.invariant in
-    let h = c.loop-i-test.true in
-    taken_on l h (sym c.same_file.ensures ∙ c.if-same_file.false)
+pub returns-in_default : goal.returns-in_default
+returns-in_default c =
+    let a = c.args in
+    let none = none_at (alike a.d.now a.x.now a.w.now) 0 a.table.now (sym (spot (goal.at.returns-in_default c).After-position) ∙ c.in_default.is) in
+    record { found = sym none; others = λ h. absurd (true≢false (sym h)); size = refl }
 
 pub returns : goal.returns
 returns c =
-    let l = c.loop-i.invariant in
-    record { found = taken_none l c.loop-i-test.false; numbers = λ h. absurd (true≢false (sym h)); size = l.size }
+    let a = c.args in
+    let f = first_at (alike a.d.now a.x.now a.w.now) 0 c.in-Some.place a.table.now (sym (spot (goal.at.returns c).After-position) ∙ c.in-Some.is) in
+    record {
+      found = sym f.found;
+      others = λ _. ap (drop 1) c.copy_within.ensures.after ∙ moved_up c.in-Some.place a.table.now (omega (arith, f.inside)) ∙ sym f.out;
+      size = c.copy_within.ensures.len;
+    }

@@ -1,6 +1,5 @@
 -- `load_words` meets its contract: the loop keeps that as many words as it has passed are loaded (laws `load_none`, `load_more`,
 -- `load_all`).
-use Prim.Native.Nat.{◌-◌}
 use native.Mathlib.Omega.{arith}
 use Rattle.listing.proofs.Loaded.{load_none, load_more, load_all}
 use Rattle.listing.proofs.words.load_words.Goals as goal

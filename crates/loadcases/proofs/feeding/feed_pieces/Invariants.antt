@@ -1,11 +1,6 @@
--- `feed_pieces` meets its contract: each length that is read lies in what the stream has left, and the run follows on where it began (law `goes_further`).
-use Rattle.std.proofs.Common.{◌≡◌, ◌≤◌, true, length}
-use Rattle.cases.specs.Runs.{Follows}
+-- `feed_pieces`: each turn reads on from where the one before it ended.
+use Rattle.cases.specs.Runs.{Further}
 use Rattle.loadcases.proofs.feeding.feed_pieces.Given as goal
 
-abbrev pub invariant-loop-left : goal.invariant-loop-left
-invariant-loop-left g l =
-    (length l.words ≡ length l.initial.words) × (l.at ≤ length l.stream) × (l.state.going ≡ true) × Follows l.initial.state l.state
-
-abbrev pub decreases-loop-left : goal.decreases-loop-left
-decreases-loop-left g l = l.left
+abbrev pub invariant-loop : goal.invariant-loop
+invariant-loop g l = Further g.R.Read.remaining l.initial.file l.file

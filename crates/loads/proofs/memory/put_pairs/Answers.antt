@@ -1,41 +1,41 @@
--- `put_pairs` meets its contract: each turn leaves what `Filling` says (laws `fill_pair`, `fill_byte`, `fill-ends`).
+-- `put_pairs` meets its contract: each turn leaves what `Filling` says (laws `fill_word`, `fill_byte`, `fill_ends`).
 use native.Mathlib.Omega.{arith}
-use Rattle.loads.proofs.Bytes.{fill_begins, fill_pair, fill_byte, fill-ends}
+use Rattle.std.proofs.Common.{◌≡◌, ◌*◌, ◌/◌, ◌<◌, ◌≤◌, ◌%◌, drop, length, get_or}
+use mathlib.Core.Path.{ap, ◌∙◌}
+use native.Mathlib.Nat.{add-zero}
+use mathlib.Core.List.{[]}
+use Rattle.std.proofs.lemmas.List.{get_or-drop}
+use Rattle.std.specs.Simd.{first_chunks}
+use Rattle.loads.proofs.Bytes.{fill_word, fill_byte, fill_ends}
 use Rattle.loads.proofs.memory.put_pairs.Goals as goal
-
-pub loop-i-init : goal.loop-i-init
-loop-i-init c =
-    let s = c.before.before in
-    fill_begins s.args.address s.args.bytes.now s.args.words.now s.requires.0
-
-pub overflow_add-i : goal.overflow_add-i
-overflow_add-i c = omega (arith, c.loop-i.invariant.within)
-
-pub put_pair-requires : goal.put_pair-requires
-put_pair-requires c = let l = c.loop-i.invariant in (l.even, omega (arith, l.long))
 
 pub loop-i-preserved : goal.loop-i-preserved
 loop-i-preserved c =
-    let t = c.before.before.before.before.before.before in
-    fill_pair _ t.loop-i.invariant t.loop-i-test.true c.put_pair.ensures
+    let ds = c.args.bytes.now in
+    let l = c.loop-i in
+    let front : c.as_chunks.result.0.now ≡ first_chunks 2 (length ds / 2) ds = c.as_chunks.ensures.front in
+    let count : length c.as_chunks.result.0.now ≡ length ds / 2 = c.as_chunks.ensures.front_len in
+    fill_word _ _ l.invariant c.requires.0 (omega arith) c.requires.1 (omega (arith, c.type_inv.bytes (2 * l.i)))
+    (ap (λ ps. get_or ps l.i []) front) c.from_le_bytes.ensures
 
-pub put_byte-requires : goal.put_byte-requires
-put_byte-requires c = omega (arith, c.loop-i.invariant.long)
+pub returns-in-Some : goal.returns-in-Some
+returns-in-Some c =
+    let ds = c.args.bytes.now in
+    let l = c.loop-i in
+    let count : length c.as_chunks.result.0.now ≡ length ds / 2 = c.as_chunks.ensures.front_len in
+    let over : length c.as_chunks.result.1.now ≡ length ds % 2 = c.as_chunks.ensures.back_len in
+    let back : c.as_chunks.result.1.now ≡ drop (length ds / 2 * 2) ds = c.as_chunks.ensures.back in
+    let first : c.in-Some.byte.now ≡ get_or c.as_chunks.result.1.now 0 0 = c.in-Some.ensures.item.3.1 0 in
+    let some : 0 < length c.as_chunks.result.1.now = c.in-Some.ensures.item.3.0 in
+    let place : length ds / 2 * 2 ≡ 2 * l.i = omega arith in
+    let byte : c.in-Some.byte.now ≡ get_or ds (2 * l.i) 0 = first ∙ rw (back, place, get_or-drop (2 * l.i) ds 0 0, add-zero) in
+    let turns : length c.as_chunks.result.0.now ≡ l.i = omega arith in
+    (fill_byte _ l.invariant (omega arith) (omega arith) (rw (← byte, ← turns) c.put_byte.ensures)).0
 
-pub shape_of-words-then-i-bytes : goal.shape_of-words-then-i-bytes
-shape_of-words-then-i-bytes c =
-    let t = c.before.before.before.before.before.before in
-    let put = c.put_byte.ensures in
-    (fill_byte _ t.loop-i.invariant c.if-i-bytes.true (omega (arith, t.loop-i-test.false)) put).1
-
-pub returns-then-i-bytes : goal.returns-then-i-bytes
-returns-then-i-bytes c =
-    let t = c.before.before.before.before.before.before in
-    let put = c.put_byte.ensures in
-    (fill_byte _ t.loop-i.invariant c.if-i-bytes.true (omega (arith, t.loop-i-test.false)) put).0
-
-pub shape_of-words-else-i-bytes : goal.shape_of-words-else-i-bytes
-shape_of-words-else-i-bytes c = c.loop-i.invariant.long
-
-pub returns-else-i-bytes : goal.returns-else-i-bytes
-returns-else-i-bytes c = fill-ends c.loop-i.invariant c.if-i-bytes.false
+pub returns-in_default : goal.returns-in_default
+returns-in_default c =
+    let ds = c.args.bytes.now in
+    let count : length c.as_chunks.result.0.now ≡ length ds / 2 = c.as_chunks.ensures.front_len in
+    let over : length c.as_chunks.result.1.now ≡ length ds % 2 = c.as_chunks.ensures.back_len in
+    let none : length c.as_chunks.result.1.now ≤ 0 = c.in_default.ensures.item.3 in
+    fill_ends c.loop-i.invariant (omega arith)

@@ -1,24 +1,12 @@
--- `sum_of` meets its contract: the loop keeps that the sum so far, with that of what is left, is the sum of all modulo 256 (laws `sum-next`, `sum-last`).
+-- `sum_of` meets its contract: a sum reduced at each byte is that of all bytes, reduced (law `sum_folds`).
 use native.Mathlib.Omega.{arith}
-use Rattle.loads.proofs.Bytes.{sum-next, sum-last}
+use Rattle.std.proofs.Common.{rules, ◌≡◌, ◌+◌, ◌%◌}
+use Rattle.std.specs.List.{fold}
+use Rattle.loads.specs.Blocks.{byte_sum}
+use Rattle.loads.proofs.Bytes.{sum_folds}
 use Rattle.loads.proofs.memory.sum_of.Goals as goal
-
-pub loop-i-init : goal.loop-i-init
-loop-i-init c = (omega arith, omega arith, omega arith)
-
-pub overflow_cast-sum : goal.overflow_cast-sum
-overflow_cast-sum c = omega (arith, c.type_inv.bytes c.loop-i.i)
-
-pub overflow_add-sum : goal.overflow_add-sum
-overflow_add-sum c = omega (arith, c.type_inv.bytes c.loop-i.i)
-
-pub loop-i-preserved : goal.loop-i-preserved
-loop-i-preserved c =
-    let l = c.loop-i in
-    let bs = c.args.bytes.now in
-    (omega arith, omega arith, sum-next bs l.i l.sum _ c.loop-i-test.true l.invariant.2)
 
 pub returns : goal.returns
 returns c =
-    let l = c.loop-i in
-    sum-last c.args.bytes.now l.i l.sum _ c.loop-i-test.false l.invariant.1 l.invariant.2
+    let e : fold (λ k b. (k + b) % 256) 0 c.args.bytes.now ≡ byte_sum c.args.bytes.now % 256 = omega (arith, sum_folds c.args.bytes.now 0 (omega arith)) in
+    rw (← e) (search rules)

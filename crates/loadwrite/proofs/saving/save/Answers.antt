@@ -1,19 +1,20 @@
 -- `save` meets its contract: its tests are those of `save_answer`, the first made as two, of which neither can overflow.
 use native.Mathlib.Omega.{arith}
+use mathlib.Core.Path.{◌∙◌}
 use Rattle.loadwrite.proofs.Files.{outside, too_short_lem, saved}
 use Rattle.loadwrite.proofs.saving.save.Goals as goal
+use Rattle.loadwrite.proofs.saving.save.Goals.{then-size-start-via-then-size-start, then-size-start-via-else-size-start+then-size-start-2}
 
 pub returns-then-size-start : goal.returns-then-size-start
 returns-then-size-start c =
     let a = c.args in
     let limit = c.size_of-size.ensures.is in
-    outside a.words.now a.out.now a.start a.count a.transfer _ (omega (arith, limit)) c.refused.ensures
-
-pub returns-then-size-start-2 : goal.returns-then-size-start-2
-returns-then-size-start-2 c =
-    let a = c.args in
-    let limit = c.size_of-size.ensures.is in
-    outside a.words.now a.out.now a.start a.count a.transfer _ (omega (arith, limit)) c.refused-then-size-start-2.ensures
+    outside a.words.now a.out.now a.start a.count a.transfer _
+    (elim c.then-size-start.branch [
+      | then-size-start-via-then-size-start w ↦ omega (arith, limit)
+      | then-size-start-via-else-size-start+then-size-start-2 w ↦ omega (arith, limit)
+    ])
+    (c.refused.ensures.0 ∙ c.number.ensures, c.refused.ensures.1)
 
 pub returns-then-out-need : goal.returns-then-out-need
 returns-then-out-need c =

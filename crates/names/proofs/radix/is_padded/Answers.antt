@@ -1,22 +1,16 @@
--- `is_padded` meets its contract. The loop's invariant: reading on from here, in the state reached, answers what reading the
--- whole answers. At the end nothing is left, and the state itself answers.
-use native.Mathlib.Omega.{arith}
-use mathlib.Core.Path.{refl, sym, ◌∙◌}
-use borrow.Author.Rules.{rules}
-use Rattle.names.proofs.Names.{run-next, run_end}
+-- `is_padded` meets its contract: the bytes that the chain tries are all spaces exactly where the field is padded (law `padded_after`).
+use Rattle.std.proofs.Common.{◌∙◌, eqb, rules, tests}
+use Rattle.std.proofs.lemmas.Iterator.{YieldsList-from_slice}
+use Rattle.std.proofs.lemmas.Iterator.Adapters.{YieldsList-from_skip_while}
+use Rattle.std.proofs.lemmas.Iterator.Search.{all_from_yields_List}
+use Rattle.names.specs.Radix.{in_name}
+use Rattle.names.proofs.Names.{padded_after}
 use Rattle.names.proofs.radix.is_padded.Goals as goal
-
-pub loop-i-init : goal.loop-i-init
-loop-i-init c = (search rules, refl)
-
-pub loop-i-preserved : goal.loop-i-preserved
-loop-i-preserved c =
-    let l = c.loop-i in
-    let bytes = c.args.bytes.now in
-    (omega arith, rw c.step-f.ensures (run-next l.f bytes l.i c.loop-i-test.true ∙ l.invariant.1))
 
 pub returns : goal.returns
 returns c =
-    let l = c.loop-i in
     let bytes = c.args.bytes.now in
-    c.is_fine.ensures ∙ sym (run_end l.f bytes l.i c.loop-i-test.false) ∙ l.invariant.1
+    all_from_yields_List (λ b. eqb b 32) _ _ _ c.all.ensures.ran
+    (YieldsList-from_skip_while _ _ _ in_name _ (λ x b q k. search (rules, tests)) (YieldsList-from_slice bytes (cc)) (cc) (cc))
+    (λ x b q k. search (rules, tests))
+    ∙ padded_after bytes

@@ -1,8 +1,8 @@
--- `pass` meets its contract: one byte is passed (law `one-passed`), or what `open_block` passes.
-use Rattle.pieces.proofs.Turns.{one-passed}
+-- `pass` meets its contract: one byte is passed (law `one_passed`), or what `open_block` passes.
+use Rattle.pieces.proofs.Turns.{one_passed}
 use Rattle.pieces.proofs.taking.pass.Goals as goal
 
-pub returns : goal.returns
-returns c =
+pub returns-in_default : goal.returns-in_default
+returns-in_default c =
     let h = c.requires in
-    one-passed _ _ h.1 h.3 c.one.ensures.0 c.one.ensures.1
+    one_passed _ _ h.1 h.3 c.one.ensures.0 c.one.ensures.1

@@ -1,29 +1,22 @@
--- `count_kept` meets its contract: a return for no half, one for a last entry that is tentative, and one for any other.
+-- `count_kept` meets its contract: one more than half where the last of the half is tentative, and else half.
 use native.Mathlib.Omega.{arith}
-use mathlib.Core.Path.{sym, ◌∙◌}
-use Rattle.render.proofs.Counting.{kept-none, kept-one, kept_half, last-room}
+use mathlib.Core.Path.{◌≡◌, sym, ◌∙◌}
+use Prim.Native.Nat.{◌/◌}
+use Rattle.render.proofs.Counting.{kept-none, kept-one, kept_half}
+use Rattle.render.proofs.measure.count_kept.Goals.{else-half-gt0-via-then-half-gt0+else-is_tentative, else-half-gt0-via-else-half-gt0}
 use Rattle.render.proofs.measure.count_kept.Goals as goal
-
-pub returns-then-half-eq0 : goal.returns-then-half-eq0
-returns-then-half-eq0 c = let h = c.requires in kept-none h.2 h.1 c.if-half-eq0.true
-
-pub overflow_mul-last : goal.overflow_mul-last
-overflow_mul-last c = let h = c.requires in omega (arith, last-room h.2 h.1 (omega arith))
-
-pub overflow_add-last : goal.overflow_add-last
-overflow_add-last c = let h = c.requires in omega (arith, last-room h.2 h.1 (omega arith))
-
-pub offset_bounds-segment-last : goal.offset_bounds-segment-last
-offset_bounds-segment-last c = let h = c.requires in omega (arith, last-room h.2 h.1 (omega arith))
-
-pub bounds-segment-last : goal.bounds-segment-last
-bounds-segment-last c =
-    let h = c.requires in omega (arith, last-room h.2 h.1 (omega arith))
 
 pub returns-then-is_tentative : goal.returns-then-is_tentative
 returns-then-is_tentative c =
-    let h = c.requires in kept-one h.2 h.1 (omega arith) (sym c.is_tentative.ensures ∙ c.if-is_tentative.true)
+    let h = c.requires in kept-one h.2 h.1 c.if-half-gt0.true (sym c.is_tentative.ensures ∙ c.if-is_tentative.true)
 
-pub returns : goal.returns
-returns c =
-    let h = c.requires in kept_half h.2 h.1 (omega arith) (sym c.is_tentative.ensures ∙ c.if-is_tentative.false)
+pub returns-else-half-gt0 : goal.returns-else-half-gt0
+returns-else-half-gt0 c =
+    let h = c.requires in
+    elim c.else-half-gt0.branch [
+      | else-half-gt0-via-then-half-gt0+else-is_tentative w ↦
+          kept_half h.2 h.1 w.if-half-gt0.true (sym w.is_tentative.ensures ∙ w.if-is_tentative.false)
+      | else-half-gt0-via-else-half-gt0 w ↦
+          let z : c.args.count / 2 ≡ 0 = omega (arith, w.if-half-gt0.false) in
+          rw z (kept-none h.2 h.1 z)
+    ]

@@ -1,8 +1,7 @@
 -- `count_entries` meets its contract: the entries that the iterator gives are those of the segment, and they are few.
 use native.Mathlib.Omega.{arith}
-use Prim.Native.Nat.{ℕ, ◌≤◌}
 use mathlib.Core.Logic.{inl}
-use mathlib.Core.Path.{◌≡◌, ◌∙◌}
+use mathlib.Core.Path.{◌≡◌}
 use lib.ListN.{length}
 use Rattle.std.proofs.lemmas.Iterator.Consumers.{YieldsList-from_first, count_from_yields_List}
 use Rattle.meaning.specs.Words.{slots, upto}
@@ -19,6 +18,6 @@ returns c =
     let w = c.args.width in
     let g = c.args.segment.now in
     let road = YieldsList-from_first (λ e. e.words.now) (λ s. ahead s.width s.rest.now) (upto (slots w g)) c.entries_of.ensures.left in
-    let e = count_from_yields_List c.entries_of.result _ c.count.ensures.ran road in
+    let e : c.count.result ≡ length (upto (slots w g)) = count_from_yields_List c.entries_of.result _ c.count.ensures.ran road in
     let few = entries-count w g in
     record { is = e; few = omega arith; small = omega (arith, few-slots w); room = rw e (slots-room (length (upto (slots w g))) w few) }

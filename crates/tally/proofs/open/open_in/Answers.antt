@@ -1,47 +1,15 @@
--- `open_in` meets its contract: the loop keeps `Looking`, that what is found among the entries ahead is what is found among all, and its
--- measure is the slots left. The test asks nothing of the entry before (`any-before`).
-use native.Mathlib.Omega.{arith}
-use mathlib.Core.Path.{sym, ◌∙◌}
-use Prim.Native.Nat.{◌+◌, ◌≤◌}
-use Rattle.segment.proofs.Looking.{looking, look_over, look_fits, look_end, look_found, look_on}
-use Rattle.tally.proofs.Opens.{open_test, open_found, any-before}
-use Rattle.tally.proofs.open.open_in.Goals.{In-loop-left}
+-- `open_in` meets its contract: the iterator gives the entries before the marker, of which `any` asks each.
+use mathlib.Core.Path.{◌∙◌}
+use Rattle.std.proofs.Common.{rules}
+use Rattle.std.proofs.lemmas.Iterator.Consumers.{YieldsList-from_first}
+use Rattle.std.proofs.lemmas.Iterator.Search.{any_from_yields_List}
+use Rattle.meaning.specs.Words.{slots, upto}
+use Rattle.segment.specs.Entries.{ahead}
+use Rattle.tally.proofs.Opens.{is_open, any_is}
 use Rattle.tally.proofs.open.open_in.Goals as goal
 
--- the slot at hand lies in the segment
-slot-fits : (c : In-loop-left) → c.loop-left.word + c.args.width ≤ 512
-slot-fits c = omega (arith, look_fits c.loop-left.invariant c.loop-left-test.true)
-
-pub nonzero_div-left : goal.nonzero_div-left
-nonzero_div-left c = omega (arith, c.requires.1)
-
-pub loop-left-init : goal.loop-left-init
-loop-left-init c = let a = c.args in looking open_test a.segment.now a.width 0 _ (open_found _ _)
-
-pub offset_bounds-segment-word : goal.offset_bounds-segment-word
-offset_bounds-segment-word c = omega (arith, slot-fits c)
-
-pub bounds-segment-word : goal.bounds-segment-word
-bounds-segment-word c = omega (arith, slot-fits (goal.at.bounds-segment-word c).In-loop-left)
-
-pub returns-then-is_marker : goal.returns-then-is_marker
-returns-then-is_marker c =
-    look_end c.loop-left.invariant c.loop-left-test.true c.requires.1
-    (sym c.is_marker.ensures ∙ c.if-is_marker.true)
-
-pub returns-then-is_tentative : goal.returns-then-is_tentative
-returns-then-is_tentative c =
-    look_found c.loop-left.invariant c.loop-left-test.true c.requires.1
-    (sym c.is_marker.ensures ∙ c.if-is_marker.false) (sym c.is_tentative.ensures ∙ c.if-is_tentative.true)
-
-pub overflow_add-word : goal.overflow_add-word
-overflow_add-word c = omega (arith, slot-fits (goal.at.overflow_add-word c).In-loop-left)
-
-pub loop-left-preserved : goal.loop-left-preserved
-loop-left-preserved c =
-    any-before
-    (look_on c.loop-left.invariant c.loop-left-test.true c.requires.1
-    (sym c.is_marker.ensures ∙ c.if-is_marker.false) (sym c.is_tentative.ensures ∙ c.if-is_tentative.false))
-
 pub returns : goal.returns
-returns c = look_over c.loop-left.invariant c.loop-left-test.false
+returns c =
+    let es = upto (slots c.args.width c.args.segment.now) in
+    let road = YieldsList-from_first (λ e. e.words.now) (λ s. ahead s.width s.rest.now) es c.entries_of.ensures.left in
+    any_from_yields_List is_open c.any.new.self _ _ c.any.ensures.ran road (λ x b q k. search rules) ∙ any_is is_open es

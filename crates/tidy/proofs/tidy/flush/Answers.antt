@@ -1,53 +1,40 @@
--- `flush` meets its contract: a law for each case of the run. An open run's entry has room, since the next write is behind the
--- next read by a slot (`behind`).
-use native.Mathlib.Omega.{arith}
-use Rattle.tidy.proofs.Runs.{calm-left, zero_left, held-left, some_left, behind}
+-- `flush` meets its contract: a run is dropped or not, as its sum and the entry before it say.
+use mathlib.Core.Path.{◌≡◌}
+use mathlib.Core.Bool.{false, ◌&&◌, not}
+use lib.Dec.{eqb}
+use lib.ListN.{length-set}
+use Rattle.meaning.specs.Requests.{flat}
+use Rattle.segment.proofs.Writes.{none_written}
+use Rattle.tidy.proofs.Runs.{dropped, needed, some-sum, left-nothing, left-entry}
+use Rattle.tidy.proofs.tidy.flush.Goals.{else-sum-eq0-via-then-sum-eq0+else-not-held, else-sum-eq0-via-else-sum-eq0}
 use Rattle.tidy.proofs.tidy.flush.Goals as goal
+
+pub returns-in-Calm : goal.returns-in-Calm
+unfolding flat
+returns-in-Calm c = rw c.in-Calm.is (none_written c.args.out.now c.args.place)
+
+pub returns-then-not-held : goal.returns-then-not-held
+returns-then-not-held c =
+    let w = c.in-Within in
+    rw (w.is, left-nothing _ _ (dropped w.sum w.held c.if-sum-eq0.true c.if-not-held.true)) (none_written c.args.out.now c.args.place)
 
 pub put_run-requires : goal.put_run-requires
 put_run-requires c =
-    let a = c.args in
-    let h = c.requires in
-    let b = behind a.segment.now a.out.now a.width a.place a.run _ _ _ c.in-Within.is 512 h.behind in
-    let w = h.wide in
-    let m = h.whole in
-    let n = h.full in
-    omega arith
-
-pub returns-then-held : goal.returns-then-held
-returns-then-held c =
-    let a = c.args in
-    let held = c.if-held in
-    let put = c.put_run in
-    held-left a.segment.now a.out.now a.width a.place a.run _ _ _ c.in-Within.is _ _ held.true
-    put.ensures
-
-pub returns-then-sum-eq0 : goal.returns-then-sum-eq0
-returns-then-sum-eq0 c =
-    let a = c.args in
-    let zero = c.if-sum-eq0 in
-    let held = c.if-held in
-    zero_left a.segment.now a.out.now a.width a.place a.run _ _ _ c.in-Within.is zero.true held.false
-
-pub put_run-requires-in-Within : goal.put_run-requires-in-Within
-put_run-requires-in-Within c =
-    let a = c.args in
-    let h = c.requires in
-    let b = behind a.segment.now a.out.now a.width a.place a.run _ _ _ c.in-Within.is 512 h.behind in
-    let w = h.wide in
-    let m = h.whole in
-    let n = h.full in
-    omega arith
-
-pub returns-in-Calm : goal.returns-in-Calm
-returns-in-Calm c =
-    let a = c.args in
-    calm-left a.segment.now a.out.now a.width a.place a.run _ c.in-Calm.is
+    let w = c.in-Within in
+    let kept : eqb w.sum 0 && not w.held ≡ false =
+    elim c.else-sum-eq0.branch [
+      | else-sum-eq0-via-then-sum-eq0+else-not-held b ↦ needed w.sum w.held b.if-not-held.false
+      | else-sum-eq0-via-else-sum-eq0 b ↦ some-sum w.sum w.held b.if-sum-eq0.false
+    ] in
+    let fits = rw (w.is, left-entry _ _ kept, length-set) at c.requires in
+    fits
 
 pub returns-else-sum-eq0 : goal.returns-else-sum-eq0
 returns-else-sum-eq0 c =
-    let a = c.args in
-    let zero = c.if-sum-eq0 in
-    let put = c.put_run-in-Within in
-    some_left a.segment.now a.out.now a.width a.place a.run _ _ _ c.in-Within.is _ _ zero.false
-    put.ensures
+    let w = c.in-Within in
+    let kept : eqb w.sum 0 && not w.held ≡ false =
+    elim c.else-sum-eq0.branch [
+      | else-sum-eq0-via-then-sum-eq0+else-not-held b ↦ needed w.sum w.held b.if-not-held.false
+      | else-sum-eq0-via-else-sum-eq0 b ↦ some-sum w.sum w.held b.if-sum-eq0.false
+    ] in
+    rw (w.is, left-entry _ _ kept) c.put_run.ensures

@@ -1,11 +1,7 @@
--- `tidy_all` meets its contract: the loop keeps `Going`, and its measure is the segments left. A turn is `goes_on_lem`, and `here` has
--- the bounds of the segment's place.
+-- `tidy_all` meets its contract: the loop keeps `Going`, that the segments still ahead, tidied as the directory stands, give what all give.
 use Prim.Native.Nat.{◌-◌}
 use Rattle.tidy.proofs.Following.{Going}
 use Rattle.tidy.proofs.tidy.tidy_all.Given as goal
 
-abbrev pub invariant-loop-left : goal.invariant-loop-left
-invariant-loop-left l = Going l.initial.words l.words l.left l.number
-
-abbrev pub decreases-loop-left : goal.decreases-loop-left
-decreases-loop-left l = l.left
+abbrev pub invariant-loop : goal.invariant-loop
+invariant-loop l = Going l.initial.words l.words (l.end - l.counter) l.number

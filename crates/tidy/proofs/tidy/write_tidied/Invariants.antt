@@ -1,10 +1,10 @@
--- `write_tidied` meets its contract: the loop keeps `Tidying`, and its measure is the slots left. A turn is `goes_on_lem`; at the
--- marker, or after the last slot, nothing is ahead, and `ends` has the rest.
+-- `write_tidied` meets its contract: the loop keeps `Tidying`, that what finishes the entries still ahead finishes all.
+use Rattle.segment.specs.Entries.{ahead}
+use Rattle.tidy.specs.OpenRun.{run_of}
 use Rattle.tidy.proofs.Tidying.{Tidying}
 use Rattle.tidy.proofs.tidy.write_tidied.Given as goal
 
-abbrev pub invariant-loop-left : goal.invariant-loop-left
-invariant-loop-left l = Tidying l.segment l.initial.out l.width l.out l.left l.word l.place l.run
-
-abbrev pub decreases-loop-left : goal.decreases-loop-left
-decreases-loop-left l = l.left
+abbrev pub invariant-loop-entry : goal.invariant-loop-entry
+invariant-loop-entry l =
+    let it = l.entry-iterator in
+    Tidying l.segment l.initial.out l.width l.out (ahead it.width it.rest.now) l.place (run_of l.run)
