@@ -56,7 +56,8 @@ fn note(found: Survey, size: u16, eligible: bool, least: usize) -> Survey
     }
 }
 
-// The survey with a run that ends: an area of the summed length, or none where a zero sum is dropped.
+// The survey with a run that ends: an area of the summed length, or none where a zero sum is dropped. `free` and `least` are no struct: the
+// one is another in each segment, the other the same in all.
 fn settle(found: Survey, run: OpenRun, free: usize, least: usize) -> Survey
     ensures { result ≡ settled least free found run }
 {

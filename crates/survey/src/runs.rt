@@ -67,7 +67,7 @@ fn let_out(run: OpenRun, entry: &Entry<'_>) -> usize
     }
 }
 
-// A segment in one walk.
+// A segment in one walk. The entries are counted by hand: the index of an `enumerate` is gone when the loop ends.
 pub fn outline_of(segment: &[u16], width: usize) -> Outline
     requires { Tidyable width segment.now }
     ensures { Outlined result (upto (slots width segment.now)) }
