@@ -24,7 +24,7 @@ use Rattle.tidy.specs.Tidied.{TidyKept}
 use Rattle.tidy.proofs.InPlace.{tidied-kept}
 use Rattle.tidy.proofs.AfterTidy.{slots_same, highest-same, first-same, total-same, ends_by}
 use Rattle.choice.specs.declared.choose.AreaPlace.{AreaPlace}
-use Rattle.choice.specs.declared.choose.Chosen.TheVariants.{At, Nothing}
+use Rattle.std.specs.Prelude.{Some, None}
 use Rattle.choice.specs.Choice.{Stands, Fitted, place_of_area}
 use Rattle.choice.proofs.FirstFit.{chosen-area, chosen_none}
 use Rattle.insert.specs.declared.place.Spot.{Spot}
@@ -94,7 +94,7 @@ module _ (v : ℕ) (d : List ℕ) (h : fault v d ≡ 0) (n : ℕ) where
         sums = ends a.seg s.low s.high;
       }
 
-  pub enterable : (p : AreaPlace) → Fitted (At p) t n → Enterable t (spot_at p) n
+  pub enterable : (p : AreaPlace) → Fitted (Some p) t n → Enterable t (spot_at p) n
   enterable p k =
       let b = chosen-area (slot_words t) (first_fit n (eligibles (areas t (chain t)))) p k.is in
       rw b.2 (area-enterable b.0 (rw b.2 at k.stands))
@@ -110,7 +110,7 @@ module _ (v : ℕ) (d : List ℕ) (h : fault v d ≡ 0) (n : ℕ) where
       let w : slot_words t ≡ slot_words d = slots_same d t kept in
       rw (i, q, w, same_area t (new_of d name n channel date) n (slot_words d) a, same-position t (slot_words d) a)
 
-  pub placed_at : (p : AreaPlace) → Fitted (At p) t n → (name : Name) (channel date : ℕ)
+  pub placed_at : (p : AreaPlace) → Fitted (Some p) t n → (name : Name) (channel date : ℕ)
       → placed_in d name n channel date
       ≡ success p.first n date (entered_at t (area_of (spot_at p))) (entered t (new_of t name n channel date) n (area_of (spot_at p)))
   placed_at p k =
@@ -118,7 +118,7 @@ module _ (v : ℕ) (d : List ℕ) (h : fault v d ≡ 0) (n : ℕ) where
       placed_area b.0 p b.2 b.1
 
   -- an area that fits is chosen
-  pub somewhere : Fitted Nothing t n → Fits d n → ⊥
+  pub somewhere : Fitted None t n → Fits d n → ⊥
   somewhere k g =
       let i : first_fit n (eligibles (areas t (chain d))) ≡ none =
       ap (λ (ss : List ℕ). first_fit n (eligibles (areas t ss))) (sym kept.links)
@@ -126,7 +126,7 @@ module _ (v : ℕ) (d : List ℕ) (h : fault v d ≡ 0) (n : ℕ) where
       false≢true (sym g ∙ ap (λ (o : Option Area). is_none o) i)
 
   -- the first block fits a word
-  pub first_small : (p : AreaPlace) → Fitted (At p) t n → p.first ≤ 65535
+  pub first_small : (p : AreaPlace) → Fitted (Some p) t n → p.first ≤ 65535
   first_small p k =
       let x = k.stands in
       omega (arith, ends p.seg x.low x.high, x.ends)

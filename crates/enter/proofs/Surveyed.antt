@@ -10,7 +10,7 @@ use Rattle.meaning.specs.Answers.{refuse, is_none}
 use Rattle.meaning.specs.Enter.{Area, eligibles, wanted, at_least, long_enough}
 use Rattle.walks.proofs.Fits.{wanted-fits}
 use Rattle.choice.specs.declared.size.Asked.{Asked}
-use Rattle.choice.specs.Asks.{size_by, Wanted}
+use Rattle.choice.specs.Asks.{size_by, wanted_by}
 use Rattle.choice.proofs.Sizes.{wanted_by_lem}
 use Rattle.survey.specs.declared.areas.Survey.{Survey}
 use Rattle.survey.specs.Surveyed.{lengths, Surveyed}
@@ -42,9 +42,9 @@ module _ (q : Asking) where
   slotless f g name channel date = rw (sym long-is ∙ f, sym eligible-is ∙ g)
 
   -- b blocks are wanted
-  module _ (f : q.survey.long ≡ true) (g : q.survey.eligible ≡ true) (b : ℕ) (w : Wanted b q.asked q.survey.longest q.survey.second) where
+  module _ (f : q.survey.long ≡ true) (g : q.survey.eligible ≡ true) (b : ℕ) (w : b ≡ wanted_by (size_by q.asked) q.survey.longest q.survey.second) where
     wanted-is : b ≡ wanted (size_by q.asked) (lengths (eligibles (areas_of q.d)))
-    wanted-is = w.is ∙ rw (q.areas.longest, q.areas.second) (wanted_by_lem (size_by q.asked) (lengths (eligibles (areas_of q.d))))
+    wanted-is = w ∙ rw (q.areas.longest, q.areas.second) (wanted_by_lem (size_by q.asked) (lengths (eligibles (areas_of q.d))))
 
     pub fits : Fits q.d b
     fits =
