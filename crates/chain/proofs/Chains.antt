@@ -2,12 +2,11 @@
 -- facts of `Chained`. Assumes nothing.
 use Prim.Native.Nat.{ℕ}
 use mathlib.Core.Path.{◌≡◌, refl, sym, ◌∙◌}
-use mathlib.Core.Bool.{Bool, true, false, not}
+use mathlib.Core.Bool.{false}
 use mathlib.Core.List.{List}
 use native.Mathlib.Omega.{arith}
 use lib.ListN.{length}
-use lib.Dec.{leb, ltb}
-use borrow.Author.Tests.{leb-true, leb-false, not-false, lt-ltb, le-ltb}
+use borrow.Author.Tests.{not-false}
 use Rattle.meaning.specs.Words.{highest}
 use Rattle.meaning.specs.Sound.{bad1, bad2, bad3, fault}
 use Rattle.walks.specs.Links.{linked}

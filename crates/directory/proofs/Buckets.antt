@@ -164,14 +164,6 @@ module _ {d : List ℕ} {w : ℕ} {ps : List ℕ} {n : ℕ} where
       let e = t.heads b is.1 in
       (e ∙ ap (λ (z : ℕ). latest d w ps n z k) is.0, omega (arith, latest_le d w ps n b k))
 
-  -- all entries are in their buckets
-  pub table_done : {latests earlier : List ℕ} {k : ℕ} → n ≤ k → Table d w ps n latests earlier k
-      → false ≡ clashes (seen d w ps n n)
-  table_done {k = k} h t =
-      let l : k ≤ n = t.threaded.most in
-      let e : k ≡ n = omega arith in
-      sym (rw e at t.none)
-
   -- the next entry, which has this key: whether that is found among those before it, and may stand once, is whether it clashes with one
   module _ (g : Places d w ps n) (k : ℕ) (l : k < n) {key : Key} (e : key_of (numbered d w ps n (k + 1)) ≡ some key) where
     met-clash : {found : Bool} → found ≡ once key && any (holds key) (seen d w ps n k)
