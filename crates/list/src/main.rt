@@ -35,6 +35,7 @@ fn read_error(input: &mut impl Read) -> Option<io::Error> {
     input.read(&mut byte).err()
 }
 
+// What is done with one input: it is listed.
 struct List;
 
 impl Takes for List {

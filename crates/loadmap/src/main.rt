@@ -62,6 +62,7 @@ fn map_start(rt: &impl Runtime, file: &[u8], name: &[u8]) {
     write_map(rt, file);
 }
 
+// What is done with one input: its map is printed.
 struct LoadMap;
 
 impl Takes for LoadMap {
