@@ -8,7 +8,8 @@ use listing::{ROOM, listing};
 use std::io;
 use std::io::Read;
 use std::rt::Runtime;
-use streams::{PATH_MAX, arg, arg_count, fail, open_read, read_full};
+use streams::files::{Takes, take_inputs};
+use streams::{fail, read_full};
 
 // One byte more than a good head file has at most, so that a longer one is seen to be too long.
 const MOST: usize = 32264;
@@ -34,45 +35,23 @@ fn read_error(input: &mut impl Read) -> Option<io::Error> {
     input.read(&mut byte).err()
 }
 
-fn list_open(rt: &impl Runtime, input: &mut impl Read, name: &[u8]) {
-    let mut file = [0u8; MOST];
-    let n = read_full(input, &mut file);
-    if n < MOST {
-        if let Some(error) = read_error(input) {
-            fail(rt, name, error);
-            return;
+// What is done with one input: it is listed.
+struct List;
+
+impl Takes for List {
+    fn take_input(rt: &impl Runtime, input: &mut impl Read, name: &[u8]) {
+        let mut file = [0u8; MOST];
+        let n = read_full(input, &mut file);
+        if n < MOST {
+            if let Some(error) = read_error(input) {
+                fail(rt, name, error);
+                return;
+            }
         }
-    }
-    write_listing(rt, &file[..n]);
-}
-
-fn list_named(rt: &impl Runtime, path: &[u8]) {
-    match open_read(rt, path) {
-        Err(error) => fail(rt, path, error),
-        Ok(mut file) => list_open(rt, &mut file, path),
-    }
-}
-
-fn list_argument(rt: &impl Runtime, i: usize) {
-    let mut path = [0u8; PATH_MAX];
-    match arg(rt, i, &mut path) {
-        Err(error) => fail(rt, b"list: a file's name", error),
-        Ok(n) => list_named(rt, &path[..n]),
-    }
-}
-
-// The program's own name is argument 0.
-fn list_arguments(rt: &impl Runtime, count: usize) {
-    for i in 1..count {
-        list_argument(rt, i);
+        write_listing(rt, &file[..n]);
     }
 }
 
 fn main(rt: HostRuntime) {
-    let count = arg_count(&rt);
-    if count < 2 {
-        list_open(&rt, &mut rt.reader(), b"standard input");
-        return;
-    }
-    list_arguments(&rt, count);
+    take_inputs::<List>(&rt, b"list: a file's name");
 }

@@ -13,23 +13,16 @@ pub(crate) fn word_at(file: &[u8], k: usize) -> u16
 
 // Whether a file is a good head file of a version, whose directory begins at the byte `first`: its length, its mark, its version, and whole
 // words for the directory.
+#[tactic(auto, unfolding(crate::specs::Bounds::good_head_of, meaning::specs::Listing::mark, names::specs::Text::bytes))]
 pub(crate) fn good_head(file: &[u8], version: u16, first: usize) -> bool
     requires { (head_bytes ≤ first) × (first ≤ 519) }
     ensures { result ≡ good_head_of version first file.now }
 {
-    if file.len() < first {
-        return false;
-    }
-    if first + 31744 < file.len() {
-        return false;
-    }
-    if !names::same_bytes(&file[..3], b"RVH") {
-        return false;
-    }
-    if word_at(file, 3) != version {
-        return false;
-    }
-    (file.len() - first) % 2 == 0
+    first <= file.len()
+        && file.len() <= first + 31744
+        && names::same_bytes(&file[..3], b"RVH")
+        && word_at(file, 3) == version
+        && (file.len() - first) % 2 == 0
 }
 
 // V, which stands after the version.

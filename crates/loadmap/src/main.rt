@@ -10,7 +10,8 @@ use maps::map;
 use std::io;
 use std::io::Read;
 use std::rt::Runtime;
-use streams::{PATH_MAX, arg, arg_count, complain, fail, open_read, read_full};
+use streams::files::{Takes, take_inputs};
+use streams::{complain, fail, read_full};
 
 // The most bytes that are taken of a file. The writer's file of a full memory has 69,127.
 const MOST: usize = 100000;
@@ -61,43 +62,21 @@ fn map_start(rt: &impl Runtime, file: &[u8], name: &[u8]) {
     write_map(rt, file);
 }
 
-fn map_open(rt: &impl Runtime, input: &mut impl Read, name: &[u8]) {
-    let mut file = [0u8; MOST];
-    let n = read_full(input, &mut file);
-    match read_more(input) {
-        Err(error) => fail(rt, name, error),
-        Ok(0) => write_map(rt, &file[..n]),
-        Ok(_) => map_start(rt, &file, name),
-    }
-}
+// What is done with one input: its map is printed.
+struct LoadMap;
 
-fn map_named(rt: &impl Runtime, path: &[u8]) {
-    match open_read(rt, path) {
-        Err(error) => fail(rt, path, error),
-        Ok(mut file) => map_open(rt, &mut file, path),
-    }
-}
-
-fn map_argument(rt: &impl Runtime, i: usize) {
-    let mut path = [0u8; PATH_MAX];
-    match arg(rt, i, &mut path) {
-        Err(error) => fail(rt, b"loadmap: a file's name", error),
-        Ok(n) => map_named(rt, &path[..n]),
-    }
-}
-
-// The program's own name is argument 0.
-fn map_arguments(rt: &impl Runtime, count: usize) {
-    for i in 1..count {
-        map_argument(rt, i);
+impl Takes for LoadMap {
+    fn take_input(rt: &impl Runtime, input: &mut impl Read, name: &[u8]) {
+        let mut file = [0u8; MOST];
+        let n = read_full(input, &mut file);
+        match read_more(input) {
+            Err(error) => fail(rt, name, error),
+            Ok(0) => write_map(rt, &file[..n]),
+            Ok(_) => map_start(rt, &file, name),
+        }
     }
 }
 
 fn main(rt: HostRuntime) {
-    let count = arg_count(&rt);
-    if count < 2 {
-        map_open(&rt, &mut rt.reader(), b"standard input");
-        return;
-    }
-    map_arguments(&rt, count);
+    take_inputs::<LoadMap>(&rt, b"loadmap: a file's name");
 }
