@@ -5,7 +5,7 @@ ghost use Rattle.std.specs.Prelude.{◌≤◌, OnOk};
 ghost use Rattle.cases.specs.Runs.{Further};
 
 use batch::run_some;
-use cases::input::{CaseFile, Head, request_at, word_at};
+use cases::input::{CaseFile, Head, asked_at, word_at};
 use cases::output::{Line, check_of, numbers_of};
 use cases::{Stop, Why};
 use meaning::{Name, Op, Request};
@@ -39,7 +39,7 @@ fn read_requests<R: Read>(file: &mut CaseFile<R>, count: usize) -> Result<[Reque
     let mut requests = [NO_REQUEST; 8];
     for i in 0..count {
         let at = 28 * i;
-        let Some(request) = request_at(&room, at) else {
+        let Some(request) = asked_at(&room, at) else {
             return Err(file.refused(Why::Request, word_at(&room, at) as u32, 28 * (count - i)));
         };
         requests[i] = request;

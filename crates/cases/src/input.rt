@@ -145,12 +145,20 @@ fn name_at(bytes: &[u8], at: usize) -> Name
     }
 }
 
-// The request that a number asks for, if it is that of one.
-#[tactic(auto, unfolding(crate::specs::Records::op_of, crate::specs::Records::is_request))]
-fn op_of(number: u16) -> Option<Op>
-    ensures { MatchOption result (is_request number ≡ false) (λ op. (is_request number ≡ true) × (op ≡ op_of number)) }
+// Whether a number asks for a request.
+#[tactic(auto, unfolding(crate::specs::Records::is_request))]
+pub fn is_request(number: u16) -> bool
+    ensures { result ≡ is_request number }
 {
-    Some(match number {
+    (1..=8).contains(&number)
+}
+
+// Which one. Whoever takes a number that asks for none stops before, so that it is no matter which that is.
+#[tactic(auto, unfolding(crate::specs::Records::op_of))]
+fn op_of(number: u16) -> Op
+    ensures { result ≡ op_of number }
+{
+    match number {
         1 => Op::Lookup,
         2 => Op::Enter,
         3 => Op::Close,
@@ -158,19 +166,17 @@ fn op_of(number: u16) -> Option<Op>
         5 => Op::Delete,
         6 => Op::Rename,
         7 => Op::Protect,
-        8 => Op::Unprotect,
-        _ => return None,
-    })
+        _ => Op::Unprotect,
+    }
 }
 
-// The request of fourteen words, if the first asks for one.
-pub fn request_at(bytes: &[u8], at: usize) -> Option<Request>
+// The request of fourteen words.
+pub fn request_at(bytes: &[u8], at: usize) -> Request
     requires { at + 28 ≤ length bytes.now }
-    ensures { MatchOption result (is_request (word_at bytes.now at) ≡ false)
-        (λ r. (is_request (word_at bytes.now at) ≡ true) × (r ≡ request_at bytes.now at)) }
+    ensures { result ≡ request_at bytes.now at }
 {
-    Some(Request {
-        op: op_of(word_at(bytes, at))?,
+    Request {
+        op: op_of(word_at(bytes, at)),
         name: name_at(bytes, at + 2),
         new_name: name_at(bytes, at + 8),
         job: word_at(bytes, at + 14),
@@ -178,5 +184,17 @@ pub fn request_at(bytes: &[u8], at: usize) -> Option<Request>
         size: signed_at(bytes, at + 18),
         final_length: signed_at(bytes, at + 22),
         date: word_at(bytes, at + 26),
-    })
+    }
+}
+
+// The same, if its first word asks for one.
+pub fn asked_at(bytes: &[u8], at: usize) -> Option<Request>
+    requires { at + 28 ≤ length bytes.now }
+    ensures { MatchOption result (is_request (word_at bytes.now at) ≡ false)
+        (λ r. (is_request (word_at bytes.now at) ≡ true) × (r ≡ request_at bytes.now at)) }
+{
+    if !is_request(word_at(bytes, at)) {
+        return None;
+    }
+    Some(request_at(bytes, at))
 }

@@ -2,7 +2,7 @@
 ghost use Rattle.std.specs.Prelude.{◌≤◌, IfOk};
 
 use crate::{Size, WORDS};
-use cases::input::{CaseFile, Head, long_at, request_at, word_at};
+use cases::input::{CaseFile, Head, asked_at, long_at, word_at};
 use cases::output::{Line, check_of, numbers_of};
 use cases::{Stop, Why};
 use door::{fault, fresh, serve};
@@ -56,7 +56,7 @@ pub(crate) fn take_request<R: Read>(
     blocks: usize,
     head: &Head,
 ) -> Result<(), Stop> {
-    let Some(request) = request_at(head, 2) else {
+    let Some(request) = asked_at(head, 2) else {
         return Err(file.refused(Why::Request, word_at(head, 2) as u32, 28));
     };
     let answer = serve(d, blocks, request);
