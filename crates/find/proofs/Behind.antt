@@ -3,19 +3,19 @@
 use Prim.Native.Nat.{ℕ}
 use native.Mathlib.Omega.{arith}
 use mathlib.Core.Path.{◌≡◌, refl, sym, ◌∙◌, subst}
-use mathlib.Core.Bool.{Bool, false}
+use mathlib.Core.Bool.{Bool}
 use mathlib.Core.List.{List, [], ◌∷◌}
 use mathlib.Core.Option.{Option, none, some}
 use Rattle.meaning.specs.Words.{Entry, status_word, protected, Row, rows}
 use Rattle.meaning.specs.Sound.{fault}
-use Rattle.meaning.specs.Answers.{Meets, refuse, success, on_row, is_none, is_protected, find, file_of, open_on, put, write}
+use Rattle.meaning.specs.Answers.{Meets, refuse, success, on_row, is_protected, find, file_of, open_on, put, write}
 use Rattle.meaning.specs.Requests.{success_with, restating, gives_way, over_protected}
 use Rattle.meaning.specs.declared.Name.{Name}
 use Rattle.meaning.specs.declared.Key.{Key}
 use Rattle.meaning.specs.declared.Key.TheVariants.{File, Open}
 use Rattle.meaning.specs.Keys.{holds}
 use Rattle.segment.specs.declared.finder.Place.{Place}
-use Rattle.std.proofs.Common.{Some, None, Result, Err}
+use Rattle.std.proofs.Common.{Some, None, Result, Ok, Err}
 use Rattle.std.specs.Option.{ok_or}
 use Rattle.std.specs.declared.option.Option as maybe
 use Rattle.meaning.specs.declared.Granted.{Granted}
@@ -26,7 +26,7 @@ use Rattle.rules.proofs.Soundness.{sound}
 use Rattle.rules.proofs.Rows.{find-some}
 use Rattle.rules.proofs.Grown.{row_ends}
 use Rattle.rules.proofs.Standing.{RowStands, rows-stand, stands_small}
-use Rattle.find.specs.Find.{protected_at, FitsWords, answer_at, restated}
+use Rattle.find.specs.Find.{protected_at, FitsWords, answer_at, told_by, restated}
 
 -- what is told at the exit of a `?`: the refusal that it met, and no word is changed
 pub passed-on : (r : Result Granted Refusal) (y f : Refusal) (d : List ℕ) → r ≡ Err y → y ≡ f → Meets (told r) d (refuse (number_of f) d)
@@ -112,3 +112,8 @@ pub restated-none : (d : List ℕ) (key : Key) (missing status : ℕ) → found_
     → restated d key missing status ≡ refuse missing d
 unfolding restated
 restated-none d key missing status e = rw (found_none (find (holds key) (rows d)) e)
+
+-- a result whose refusals have the numbers of the requests is told by them
+pub told-by-number : (r : Result Granted Refusal) → told_by number_of r ≡ told r
+told-by-number (Ok e) = refl
+told-by-number (Err f) = refl

@@ -1,10 +1,10 @@
 -- What the finder promises: the first row of the directory that is looked for, as a place; and what requests make of it.
-use Rattle.std.specs.Prelude.{ℕ, ◌≤◌, ◌≡◌, Bool, false, List, length, eqb, Some, None}
+use Rattle.std.specs.Prelude.{ℕ, ◌≤◌, ◌≡◌, Bool, false, List, length, eqb, Some, None, Result, Ok, Err}
 use Rattle.meaning.specs.Kinds.{protected_status}
 use Rattle.meaning.specs.Words.{slot_words, rows}
 use Rattle.meaning.specs.declared.Answer.{Answer}
 use Rattle.meaning.specs.declared.Granted.{Granted}
-use Rattle.meaning.specs.Answers.{Outcome, granted, on_row, find, write}
+use Rattle.meaning.specs.Answers.{Outcome, granted, refusal, on_row, find, write}
 use Rattle.meaning.specs.Requests.{success_with, restating}
 use Rattle.segment.specs.Finder.{Found, found_of, Inside}
 use Rattle.meaning.specs.declared.Key.{Key}
@@ -40,6 +40,11 @@ answer_with p n = granted p.first n p.date (record { segment = p.seg; slot = p.s
 
 abbrev pub answer_at : Place → Answer
 answer_at p = answer_with p p.length
+
+-- the answer of a result, where a refusal of any kind has its number
+abbrev pub told_by : {E : Type 0} → (E → ℕ) → Result Granted E → Answer
+told_by number (Ok e) = granted e.first e.length e.date e.position
+told_by number (Err r) = refusal (number r)
 
 -- abandon, protect and unprotect, once nothing but a missing entry can refuse them
 unfoldable pub restated : List ℕ → Key → ℕ → ℕ → Outcome

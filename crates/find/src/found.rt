@@ -1,13 +1,12 @@
 // What requests do with an entry that was looked for: ask whether it is protected, grant it, or give it another status.
-ghost use Rattle.std.specs.Prelude.{◌≡◌};
+ghost use Rattle.std.specs.Prelude.{ℕ, ◌≡◌};
 ghost use Rattle.meaning.specs.Sound.{fault};
 ghost use Rattle.meaning.specs.Answers.{Meets};
-ghost use Rattle.meaning.specs.Told.{number_of, told};
-ghost use Rattle.find.specs.Find.{protected_at, FitsWords, entry_with, entry_at, restated};
+ghost use Rattle.find.specs.Find.{protected_at, FitsWords, entry_with, entry_at, told_by, restated};
 
 use crate::find_entry;
 use edits::change::give_status;
-use meaning::{Granted, Key, Position, Refusal};
+use meaning::{Granted, Key, Position};
 use segment::finder::Place;
 use segment::kinds;
 
@@ -41,18 +40,21 @@ pub fn granted(place: Place) -> Granted
     granted_with(place, place.length)
 }
 
-// The entry that is looked for gets another status; where there is none, that refusal.
-pub fn restate_found(
+// The entry that is looked for gets another status; where there is none, that refusal, of whatever kind: the promise holds for any numbers
+// that refusals have.
+pub fn restate_found<E: Copy>(
     d: &mut [u16],
     v: usize,
     key: Key,
-    missing: Refusal,
+    missing: E,
     status: u16,
-) -> Result<Granted, Refusal>
+) -> Result<Granted, E>
     requires { fault v d.old ≡ 0 }
-    ensures { Meets (told result) d.new (restated d.old key (number_of missing) status) }
+    ensures { (number : E → ℕ) → Meets (told_by number result) d.new (restated d.old key (number missing) status) }
 {
-    let place = find_entry(d, key).ok_or(missing)?;
+    let Some(place) = find_entry(d, key) else {
+        return Err(missing);
+    };
     give_status(d, place.at, status);
     Ok(granted(place))
 }

@@ -1,5 +1,6 @@
 // The pieces of the listing's text, each written into lent room from the place `at` on. Each answers the place after its bytes, and
-// asks for the room of the longest text that it can be. No number of a volume is above 65,535, so that five digits are enough.
+// asks for the room of the longest text that it can be. Room and place go beside one another, and there is no Vec, since the project takes no
+// memory from a heap. No number of a volume is above 65,535, so that five digits are enough.
 #![tactic(auto)]
 
 ghost use Rattle.std.specs.Prelude.{◌≡◌, ◌+◌, ◌≤◌, ◌<◌, [], ◌∷◌, ◌++◌, length};

@@ -89,6 +89,11 @@ passes_here l s p e h =
     let r : rest_of p ≡ rest_of (part_of l s) = ap rest_of e in
     omega (arith, r, passes l s (ap goes_on (sym e) ∙ h))
 
+-- and of a part at a place of the stream
+pub passes_at : (l at : ℕ) (s : List ℕ) (p : Part) → at ≤ length s → p ≡ part_of l (drop at s) → goes_on p ≡ true
+    → at + (rest_of p + 1) ≤ length s
+passes_at l at s p h e g = omega (arith, passes_here l (drop at s) p e g, length-drop at s)
+
 -- where the answer is a success the stream is not at its end, and what is no gap is a right block
 pub accepted-long : (l : ℕ) (s : List ℕ) → (read_from l 0 s).number ≡ 0 → 0 < length s
 unfolding read_from

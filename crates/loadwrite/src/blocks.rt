@@ -1,4 +1,4 @@
-// One block of a load file. Each routine answers the place after what it wrote, as those of `lines` do: `Wrote` says what the whole room then holds.
+// One block of a load file. Each routine answers the place after what it wrote, as those of `lines` do, since there is no heap: `Wrote` says what the whole room then holds.
 ghost use Rattle.std.specs.Prelude.{[], ◌∷◌, ◌≡◌, ◌+◌, ◌*◌, ◌/◌, ◌%◌, ◌≤◌, ◌<◌, length};
 ghost use Rattle.loads.specs.Memory.{bytes_at};
 ghost use Rattle.loads.specs.Writing.{checksum, block};

@@ -1,5 +1,5 @@
 // The map of a load file: a line for each data block, and a last one for what ends the file. Each routine but `map` writes into lent room from the
-// place `at` on, and answers the place after its bytes.
+// place `at` on, and answers the place after its bytes: no heap, as in `lines`.
 #![tactic(auto)]
 
 ghost use Rattle.std.specs.Prelude.{◌≡◌, true, ◌+◌, ◌≤◌, length};

@@ -14,7 +14,8 @@ use segment::entry::Entry;
 use segment::kinds;
 
 // What all areas are like, for a least length: whether one is that long (else refusal 11), whether an eligible one is (else
-// refusal 12), and the longest and the second longest eligible length, from which a default is reckoned.
+// refusal 12), and the longest and the second longest eligible length, from which a default is reckoned. Two flags and no Option of the lengths: an
+// area can be long that isn't eligible, and `noted` in specs/ says each of the four by itself.
 #[derive(Clone, Copy)]
 pub struct Survey {
     pub long: bool,

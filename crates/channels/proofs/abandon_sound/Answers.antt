@@ -1,6 +1,7 @@
 -- `abandon_sound` meets its contract: the channel is tested, and then `restate_found` does the rest with the channel's key.
 use Rattle.std.proofs.lemmas.Result.{err_from_is_err_and}
-use Rattle.find.proofs.Behind.{passed-on}
+use Rattle.meaning.specs.Told.{number_of}
+use Rattle.find.proofs.Behind.{passed-on, told-by-number}
 use Rattle.channels.proofs.Tested.{abandon-bad, abandon-good}
 use Rattle.channels.proofs.abandon_sound.Goals as goal
 
@@ -16,4 +17,5 @@ pub returns : goal.returns
 returns c =
     let a = c.args in
     let w = c.in_ok-word.ensures in
-    rw (abandon-good a.v a.d.now c.requires a.job a.channel w.0, ← w.1) c.restate_found.ensures
+    rw (abandon-good a.v a.d.now c.requires a.job a.channel w.0, ← w.1)
+    (rw (told-by-number c.restate_found.result) at (c.restate_found.ensures number_of))
