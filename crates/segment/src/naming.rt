@@ -1,4 +1,4 @@
-// The name of an entry, compared with another, as the finder and the test for clashes do.
+// The name of an entry, compared with another: the one place where code does so.
 ghost use Rattle.std.specs.Prelude.{◌≡◌};
 ghost use Rattle.meaning.specs.Words.{name_of, same_name};
 
