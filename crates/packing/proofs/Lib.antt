@@ -1,3 +1,4 @@
+pub mod Copying
 pub mod Walks
 pub mod Outs
 pub mod Rendering

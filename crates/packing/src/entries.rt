@@ -30,6 +30,21 @@ pub fn put_left(out: &mut [u16], at: usize, width: usize, free: usize, block: us
     put_words(&gap[..width], out, at)
 }
 
+// An entry, copied; the answer is the place after it. Its first seven words go apart, as a copy of seven is a few moves, whereas of a copy of so many
+// words as an entry has the compiler makes a call of the C library's (docs/SPEED.md).
+fn put_entry(entry: &Entry<'_>, out: &mut [u16], at: usize) -> usize
+    requires { at + length entry.now.words.now ≤ length out.old }
+    ensures { Written out.old at entry.now.words.now out.new result }
+{
+    let (seven, extra) = entry.words.split_at(7);
+    let next = at + 7;
+    out[at..next].copy_from_slice(seven);
+    if extra.is_empty() {
+        return next;
+    }
+    put_words(extra, out, next)
+}
+
 // What this entry lets out: a file what is left over before it, itself and its move, anything else nothing.
 fn pass_entry(
     entry: &Entry<'_>,
@@ -50,7 +65,7 @@ fn pass_entry(
     let place = place_at(entry, stands, so_far.free);
     let next = put_left(out, so_far.at, entry.words.len(), so_far.free, place);
     Place {
-        at: put_words(entry.words, out, next),
+        at: put_entry(entry, out, next),
         listed: put_move(list, so_far.listed, stands, place, blocks),
         free: place + blocks as usize,
     }

@@ -40,8 +40,8 @@ put_left-next-requires c =
     let e = c.place_at-place.ensures in
     (omega arith, r.narrow, omega arith, omega (arith, r.high), left-room (filed p))
 
-pub put_words-requires : goal.put_words-requires
-put_words-requires c = slot-room (filed (goal.at.put_words-requires c).After-place_at-place) c.put_left-next.ensures
+pub put_entry-requires : goal.put_entry-requires
+put_entry-requires c = slot-room (filed (goal.at.put_entry-requires c).After-place_at-place) c.put_left-next.ensures
 
 pub put_move-requires : goal.put_move-requires
 put_move-requires c =
@@ -63,7 +63,7 @@ unfolding free_after
 returns c =
     let f = filed (goal.at.returns c).After-place_at-place in
     record {
-      entries = file-made f c.put_left-next.ensures c.put_words.ensures;
+      entries = file-made f c.put_left-next.ensures c.put_entry.ensures;
       moves = rw (f.file, ← f.place, ← c.blocks-blocks.ensures) c.put_move.ensures;
       free = rw (f.file, f.place, c.blocks-blocks.ensures) refl;
     }
