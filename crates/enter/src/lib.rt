@@ -31,14 +31,13 @@ fn tidy_if(d: &mut [u16], v: usize, untidy: bool)
 }
 
 // The directory tidied, and the new entry put into the first area that is long enough. It is known that there is one.
-fn place_file(d: &mut [u16], v: usize, untidy: bool, new: Tentative) -> Granted
+fn place_file(d: &mut [u16], v: usize, untidy: bool, new: Tentative) -> Result<Granted, Refusal>
     requires { (fault v d.old ≡ 0) × (untidy ≡ any_untidy d.old) × Fits d.old new.length }
-    ensures { Meets (told (Ok result)) d.new (placed_in d.old new.name new.length new.channel new.date) }
+    ensures { Meets (told result) d.new (placed_in d.old new.name new.length new.channel new.date) }
 {
     tidy_if(d, v, untidy);
-    let Some(area) = first_fit(d, new.length as usize) else {
-        unreachable!()
-    };
+    // This is never an error: that `Fits` rules it out is proved.
+    let area = first_fit(d, new.length as usize).ok_or(Refusal::NoRoom)?;
     let spot = Spot {
         seg: area.seg,
         before: area.before,
@@ -46,12 +45,12 @@ fn place_file(d: &mut [u16], v: usize, untidy: bool, new: Tentative) -> Granted
         cost: area.cost,
     };
     let position = enter_area(d, spot, new);
-    Granted {
+    Ok(Granted {
         first: area.first as u16,
         length: new.length,
         date: new.date,
         position,
-    }
+    })
 }
 
 // Enter, once nothing but want of room can refuse it.
@@ -81,5 +80,5 @@ pub fn enter_file(
         channel,
         date,
     };
-    Ok(place_file(d, v, found.untidy, new))
+    place_file(d, v, found.untidy, new)
 }
