@@ -95,7 +95,7 @@ fn survey_in(segment: &[u16], width: usize, free: usize, least: usize, given: Su
     let mut run = OpenRun::Calm(false);
     for entry in entries_of(segment, width) {
         found = meet(found, run, &entry, free, least);
-        run = run_after(run, &entry);
+        run = run_after(run, entry.status(), entry.blocks());
     }
     settle(found, run, free, least)
 }

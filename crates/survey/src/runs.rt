@@ -1,6 +1,7 @@
 // Runs of neighbouring empty entries, as a walk over a segment's entries meets them, and what becomes of a segment once they are joined.
 ghost use Rattle.std.specs.Prelude.{◌≡◌, ◌+◌, ◌≤◌};
-ghost use Rattle.meaning.specs.Words.{kind, blocks, slots, upto};
+ghost use Rattle.meaning.specs.Kinds.{kind_of};
+ghost use Rattle.meaning.specs.Words.{kind, slots, upto};
 ghost use Rattle.tidy.specs.Tidied.{Tidyable};
 ghost use Rattle.survey.specs.Runs.{sum_so_far, after, dropped, LeftBy, LetOut, Outlined};
 
@@ -23,18 +24,18 @@ pub struct Outline {
     pub entries: usize,
 }
 
-// Where the walk stands after an entry: an empty one joins the run or opens one.
+// Where the walk stands after a slot: an empty entry joins the run or opens one.
 #[tactic(auto, unfolding(crate::specs::Runs::after))]
-pub fn run_after(run: OpenRun, entry: &Entry<'_>) -> OpenRun
-    requires { sum_so_far run + blocks entry.now.words.now ≤ 65535 }
-    ensures { result ≡ after run (kind entry.now.words.now) (blocks entry.now.words.now) }
+pub fn run_after(run: OpenRun, status: u16, blocks: u16) -> OpenRun
+    requires { sum_so_far run + blocks ≤ 65535 }
+    ensures { result ≡ after run (kind_of status) blocks }
 {
-    if !kinds::is_empty(entry.status()) {
-        return OpenRun::Calm(kinds::is_tentative(entry.status()));
+    if !kinds::is_empty(status) {
+        return OpenRun::Calm(kinds::is_tentative(status));
     }
     match run {
-        OpenRun::Calm(held) => OpenRun::Within(entry.blocks(), held),
-        OpenRun::Within(sum, held) => OpenRun::Within(sum + entry.blocks(), held),
+        OpenRun::Calm(held) => OpenRun::Within(blocks, held),
+        OpenRun::Within(sum, held) => OpenRun::Within(sum + blocks, held),
     }
 }
 
@@ -78,7 +79,7 @@ pub fn outline_of(segment: &[u16], width: usize) -> Outline
     for entry in entries_of(segment, width) {
         count += let_out(run, &entry);
         entries += 1;
-        run = run_after(run, &entry);
+        run = run_after(run, entry.status(), entry.blocks());
     }
     Outline {
         count: count + left_by(run),

@@ -16,12 +16,12 @@ pub overflow_add-entries : goal.overflow_add-entries
 overflow_add-entries c = omega (arith, small c.loop-entry.invariant c.requires.wide)
 
 pub run_after-run-requires : goal.run_after-run-requires
-run_after-run-requires c = sum_fits c.loop-entry.invariant.walks c.in-Some.entry.words.now _ c.in-Some.ensures.steps
+run_after-run-requires c = rw c.blocks-in-loop-entry.ensures (sum_fits c.loop-entry.invariant.walks c.in-Some.entry.words.now _ c.in-Some.ensures.steps)
 
 pub loop-entry-preserved : goal.loop-entry-preserved
 loop-entry-preserved c =
     let k = c.let_out-count.ensures in
-    rw c.run_after-run.ensures
+    rw (c.run_after-run.ensures, c.status.ensures, c.blocks-in-loop-entry.ensures)
     (outline_on c.loop-entry.invariant c.in-Some.entry.words.now _ c.in-Some.ensures.steps _ k.is k.few)
 
 pub overflow_add-result : goal.overflow_add-result
