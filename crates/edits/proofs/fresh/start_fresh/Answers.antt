@@ -5,4 +5,4 @@ use Rattle.edits.proofs.fresh.start_fresh.Goals as goal
 pub returns : goal.returns
 returns c =
     let p = c.requires.0 in
-    rw (c.fill.ensures.after (λ y e. e)) (started c.args.v c.args.words.now c.args.extra p.whole p.some c.requires.1)
+    rw c.clear.ensures (started c.args.v c.args.words.now c.args.extra p.whole p.some c.requires.1)
