@@ -261,15 +261,16 @@ fn dates() -> Sum {
     sum
 }
 
-fn show_sum(rt: &impl Print, name: &str, sum: Sum) {
-    let _ = println!(rt; "{name} {}", sum.value());
+fn show_sum(rt: &impl Print, name: &[u8], sum: Sum) {
+    show(rt, name);
+    let _ = println!(rt; "{}", sum.value());
 }
 
 fn main(rt: HostRuntime) {
     show_input(&rt, &mut rt.reader());
-    show_sum(&rt, "words", words());
-    show_sum(&rt, "legal", legal());
-    show_sum(&rt, "texts", texts());
-    show_sum(&rt, "days", days());
-    show_sum(&rt, "dates", dates());
+    show_sum(&rt, b"words ", words());
+    show_sum(&rt, b"legal ", legal());
+    show_sum(&rt, b"texts ", texts());
+    show_sum(&rt, b"days ", days());
+    show_sum(&rt, b"dates ", dates());
 }
