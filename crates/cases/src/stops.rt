@@ -49,12 +49,13 @@ pub enum Fault {
     Refused(Why, u32, u64),
 }
 
+// How the line begins that tells it: up to the number that can't be taken, or to the place.
 impl fmt::Display for Fault {
     fn fmt<W: fmt::Write>(&self, f: &mut fmt::Formatter<W>) -> fmt::Result {
         match *self {
-            Fault::NoEnd(at) => write!(f, "the input ends without an end record, at byte {at}"),
-            Fault::Cut(at) => write!(f, "the input ends in the midst of a record, at byte {at}"),
-            Fault::Refused(why, number, at) => write!(f, "{why}, {number}, at byte {at}"),
+            Fault::NoEnd(_) => f.write_str("the input ends without an end record"),
+            Fault::Cut(_) => f.write_str("the input ends in the midst of a record"),
+            Fault::Refused(why, _, _) => write!(f, "{why}, "),
         }
     }
 }

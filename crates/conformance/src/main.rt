@@ -10,13 +10,13 @@ ghost use Rattle.std.specs.Prelude.{◌≤◌};
 
 use batchcases::take_batch;
 use cases::input::{CaseFile, Head, word_at};
-use cases::{Stop, Why};
+use cases::{Fault, Stop, Why};
 use labelcases::take_block;
 use loadcases::take_memory;
 use records::{start_fresh, take_directory, take_request, write_fault};
 use squeezecases::take_squeeze;
 use std::io::Read;
-use streams::{complain, fail};
+use streams::fail;
 
 // The words of 31 segments, which is the most that a case may hand in.
 const WORDS: usize = 15872;
@@ -98,10 +98,23 @@ fn run<R: Read>(
     Ok(())
 }
 
+// What is wrong, the number that can't be taken, and where: each part by a write of its own.
+fn complain(rt: &impl Eprint, fault: Fault) {
+    let _ = eprint!(rt; "conformance: {fault}");
+    let at = match fault {
+        Fault::NoEnd(at) | Fault::Cut(at) => at,
+        Fault::Refused(_, number, at) => {
+            let _ = rt.eprint(number);
+            at
+        }
+    };
+    let _ = eprintln!(rt; ", at byte {at}");
+}
+
 // One line on standard error. Whether it got out there is no matter: the run ends anyway.
 fn report(rt: &(impl Eprint + Alloc), stop: Stop) {
     match stop {
-        Stop::Fault(fault) => complain(rt, b"conformance", fault),
+        Stop::Fault(fault) => complain(rt, fault),
         Stop::Input(error) => fail(rt, b"conformance: standard input", error),
         Stop::Output(error) => fail(rt, b"conformance: standard output", error),
     }
