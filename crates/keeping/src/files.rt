@@ -25,7 +25,10 @@ pub fn list_entries(d: &[u16], width: usize, number: usize, table: &mut [File]) 
             return count;
         }
         if kinds::is_permanent(status) {
-            table[count] = File { first, at };
+            table[count] = File {
+                first: first as u32,
+                at: at as u32,
+            };
             count += 1;
         }
         at += width;

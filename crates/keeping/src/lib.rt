@@ -12,10 +12,11 @@ pub mod matching;
 use segment::entry::Entry;
 
 // A file that a directory lists: its first block, and where its entry's first word stands in the directory. What else a file keeps is read there.
+// Each fits 32 bits, so that a table of files takes no more room than one of single numbers.
 #[derive(Clone, Copy)]
 pub struct File {
-    pub first: usize,
-    pub at: usize,
+    pub first: u32,
+    pub at: u32,
 }
 
 impl File {
@@ -24,6 +25,7 @@ impl File {
         requires { Within d.now self.now }
         ensures { result.words.now ≡ take 7 (drop self.now.at d.now) }
     {
-        Entry::new(&d[self.at..self.at + 7])
+        let at = self.at as usize;
+        Entry::new(&d[at..at + 7])
     }
 }
