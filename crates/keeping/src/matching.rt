@@ -6,6 +6,7 @@ ghost use Rattle.walks.specs.Lists.{All};
 ghost use Rattle.keeping.specs.Tables.{Within, file_of, TakenFrom};
 
 use crate::File;
+use segment::naming::is_named;
 
 // Whether what `x` lists in `d` is the file that `y` lists in `w`. First blocks nearly always tell two files apart.
 fn same_file(d: &[u16], x: &File, w: &[u16], y: &File) -> bool
@@ -16,7 +17,7 @@ fn same_file(d: &[u16], x: &File, w: &[u16], y: &File) -> bool
     let q = y.entry(w);
     x.first == y.first
         && p.status() == q.status()
-        && p.name() == q.name()
+        && is_named(&p, q.name())
         && p.blocks() == q.blocks()
         && p.date() == q.date()
 }
