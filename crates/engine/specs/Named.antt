@@ -1,4 +1,4 @@
--- What the routine behind enter's first tests promises.
+-- What is left of an enter behind its first tests.
 use Rattle.std.specs.Prelude.{ℕ, not, List}
 use Rattle.meaning.specs.declared.Name.{Name}
 use Rattle.meaning.specs.Answers.{Outcome, unless}

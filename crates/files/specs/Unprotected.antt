@@ -1,4 +1,4 @@
--- What the tests of a name promise, and the routines behind the first tests of delete and rename.
+-- What the tests of a name promise, and what is left of a delete and a rename behind their first tests.
 use Rattle.std.specs.Prelude.{ℕ, ◌<◌, ◌≡◌, true, false, cond, not, List, Result, Ok, Err}
 use Rattle.meaning.specs.declared.Name.{Name}
 use Rattle.meaning.specs.declared.Refusal.{Refusal}
