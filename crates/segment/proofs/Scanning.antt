@@ -8,8 +8,8 @@ use mathlib.Core.Bool.{Bool, true, false, cond, true≢false}
 use mathlib.Core.List.{List, [], ◌∷◌, ◌++◌}
 use native.Mathlib.Nat.{add-zero, zero-add, div-le_self, div-eq_of_lt, add-div_left}
 use native.Mathlib.Omega.{arith}
-use lib.ListN.{length, drop, length-drop, length-append}
-use lib.Seq.{take_at, drop_at}
+use lib.ListN.{length, take, drop, length-drop, length-append}
+use lib.Seq.{take_at, drop_at, take-length}
 use Rattle.meaning.specs.declared.Kind.{Kind}
 use Rattle.meaning.specs.declared.Kind.TheVariants.{Tentative, Empty, Permanent, End, Unknown}
 use Rattle.meaning.specs.Kinds.{is_tentative, is_empty, is_permanent, is_end}
@@ -104,6 +104,10 @@ starts g w h =
       small = omega arith;
       same = rw long (scan_start (chunks (slot_count w) w (drop 5 g)));
     }
+
+-- the words behind the header, as code cuts them
+pub started : (g : List ℕ) (w : ℕ) (l : List ℕ) → length g ≡ 512 → l ≡ take (length g - 5) (drop 5 g) → Scanning g w l 0 0 false
+started g w l h e = rw (e, ← length-drop 5 g, take-length (drop 5 g)) (starts g w h)
 
 module _ {g : List ℕ} {w : ℕ} {l : List ℕ} {count sum : ℕ} {owed : Bool} (v : Scanning g w l count sum owed) where
   module _ (e r : List ℕ) (next : l ≡ e ++ r) (whole : length e ≡ w) (some : 0 < w) where

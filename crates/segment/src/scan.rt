@@ -72,6 +72,7 @@ pub fn slot_step(slot: &Entry<'_>, owed: bool) -> Step
 }
 
 // All slots of a segment, up to the marker; none where they break rule 4. The sum is a usize, so that it is exact and never reduced by 65,536.
+#[tactic(auto, using(crate::proofs::Scanning::started))]
 pub fn scan_slots(segment: &[u16], width: usize) -> Option<Sum>
     requires { (length segment.now ≡ 512) × (7 ≤ width) × (width ≤ 23) }
     ensures { Scanned result width segment.now }

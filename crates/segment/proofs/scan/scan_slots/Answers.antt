@@ -2,28 +2,15 @@
 use native.Mathlib.Omega.{arith}
 use mathlib.Core.Path.{◌≡◌, sym, ap, ◌∙◌}
 use mathlib.Core.List.{◌++◌}
-use lib.ListN.{length, drop, length-drop}
-use lib.Seq.{take-length}
+use lib.ListN.{length}
 use Rattle.segment.specs.Steps.{slot_step}
-use Rattle.segment.proofs.Scanning.{starts, bad, ends, goes, over}
+use Rattle.segment.proofs.Scanning.{bad, ends, goes, over}
 use Rattle.segment.proofs.scan.scan_slots.Goals.{After-slot_step}
 use Rattle.segment.proofs.scan.scan_slots.Goals as goal
 
 -- what the code says of the slot at hand is said of the words that the iterator gave
 said : (c : After-slot_step) → c.slot_step.result ≡ slot_step c.loop-words.owed c.in-Some.words.now
 said c = c.slot_step.ensures ∙ ap (λ b. slot_step c.loop-words.owed b.now) c.new.ensures
-
-pub loop-words-init : goal.loop-words-init
-loop-words-init c =
-    let a = c.args in
-    let g = a.segment.now in
-    let e = c.into_iter-words-iterator.ensures.into_iter_gives in
-    let words : c.into_iter-words-iterator.result.rest.now ≡ drop 5 g =
-    ap (λ i. i.rest.now) e ∙ c.chunks_exact-words-items.ensures.rest ∙ rw (← length-drop 5 g) (take-length (drop 5 g)) in
-    record {
-      size = ap (λ i. i.size) e ∙ c.chunks_exact-words-items.ensures.size;
-      scanning = rw words (starts g a.width c.requires.0);
-    }
 
 -- what the iterator gave: a slot in front of the words that are left
 gave : (c : After-slot_step)
@@ -52,4 +39,4 @@ loop-words-preserved c =
     }
 
 pub returns : goal.returns
-returns c = over c.loop-words.invariant.scanning (rw c.loop-words.invariant.size at c.in-None.ensures.steps.1.0)
+returns c = over c.loop-words.invariant.scanning (omega (arith, c.loop-words.invariant.size, c.in-None.ensures.steps.1.0))
