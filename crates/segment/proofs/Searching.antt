@@ -6,7 +6,7 @@ use mathlib.Core.Bool.{true, false, cond}
 use mathlib.Core.List.{List, [], ◌∷◌}
 use mathlib.Core.Option.{some}
 use Rattle.std.specs.Prelude.{Some, None}
-use native.Mathlib.Nat.{suc-mul}
+use native.Mathlib.Nat.{suc-mul, add-mul}
 use native.Mathlib.Omega.{arith}
 use lib.ListN.{length}
 use Rattle.meaning.specs.declared.Key.{Key}
@@ -79,6 +79,22 @@ module _ {g : List ℕ} {w s base first : ℕ} {key : Key} {es : List Entry} {k 
 
   pub none_left : es ≡ [] → FoundIn None g w s base first key
   none_left e = record { is = sym (ap (searching key w s k a b) e ∙ search_none key w s k a b) ∙ v.same; inside = tt }
+
+-- as code counts, which has passed n entries: slot and word are made of the count
+abbrev pub Counted : (g : List ℕ) (w s base first : ℕ) (key : Key) (es : List Entry) (n b : ℕ) → Type 0
+Counted g w s base first key es n b = Searching g w s base first key es (n + 1) (base + 5 + n * w) b
+
+pub counted : (g : List ℕ) (w s base first : ℕ) (key : Key) → Counted g w s base first key (upto (slots w g)) 0 first
+counted g w s base first key =
+    let e : base + 5 ≡ base + 5 + 0 * w = omega arith in
+    rw (← e) (starts g w s base first key)
+
+pub counted_on : {g : List ℕ} {w s base first : ℕ} {key : Key} {es : List Entry} {b : ℕ} (n : ℕ) (v : Counted g w s base first key es n b)
+    (e : Entry) (others : List Entry) → es ≡ e ∷ others → holds key e ≡ false → blocks e ≤ 65535
+    → Counted g w s base first key others (n + 1) (b + blocks e)
+counted_on {g} {w} {s} {base} {first} {key} {es} {b} n v e others next h small =
+    let k : base + 5 + n * w + w ≡ base + 5 + (n + 1) * w = omega (arith, add-mul n 1 w) in
+    rw k at (passes v e others next h small)
 
 -- for callers: where the slot of a place found ends
 pub place_inside : (r : Found) (p : Place) (w n : ℕ) → r ≡ Some p → Inside r w n → p.at + w ≤ n

@@ -35,7 +35,8 @@ pub fn slot_keyed(entry: &Entry<'_>, key: Key) -> bool
 }
 
 // The first entry looked for in the segment of this number, whose words begin at word `base` of the directory and whose blocks
-// begin at `first`. Slot, word and block are counted along, so that no count is multiplied by a width.
+// begin at `first`. Only what each entry needs is counted along, since a search passes thousands of them: slot and word are made of the count where an
+// entry is found.
 pub fn find_in(
     segment: &[u16],
     width: usize,
@@ -47,23 +48,19 @@ pub fn find_in(
     requires { (length segment.now ≡ 512) × (7 ≤ width) × (width ≤ 23) × (base ≤ 65536) × (first ≤ 65535) }
     ensures { FoundIn result segment.now width number base first key }
 {
-    let mut slot: usize = 1;
-    let mut at: usize = base + 5;
     let mut block: usize = first;
-    for entry in entries_of(segment, width) {
+    for (passed, entry) in entries_of(segment, width).enumerate() {
         if slot_keyed(&entry, key) {
             return Some(Place {
                 seg: number,
-                slot,
-                at,
+                slot: passed + 1,
+                at: base + 5 + passed * width,
                 first: block,
                 status: entry.status(),
                 length: entry.blocks(),
                 date: entry.date(),
             });
         }
-        slot += 1;
-        at += width;
         block += entry.blocks() as usize;
     }
     None

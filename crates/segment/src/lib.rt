@@ -1,6 +1,6 @@
 // One segment of 512 words: the kinds of its slots, a scan that tests and sums them, the count of its entries, and the finder of an
 // entry; and words copied. Nothing here knows of the chain: the crates above hand over each segment as a part of the directory.
-// Throughout, `width` is how many words a slot has, 7 + E, and `word` the place in the segment where a slot begins.
+// Throughout, `width` is how many words a slot has, 7 + E.
 #![tactic(auto)]
 
 pub mod copying;

@@ -2,27 +2,29 @@
 use Prim.Native.Nat.{◌≤◌}
 use native.Mathlib.Omega.{arith}
 use mathlib.Core.Path.{sym, ◌∙◌}
-use Rattle.segment.proofs.Searching.{starts, hits, passes, none_left}
+use Rattle.segment.proofs.Searching.{counted, hits, counted_on, none_left}
 use Rattle.segment.proofs.finder.find_in.Goals as goal
 
-pub loop-entry-init : goal.loop-entry-init
-loop-entry-init c =
+pub loop-passed-init : goal.loop-passed-init
+loop-passed-init c =
     let a = c.args in
-    rw (c.into_iter-entry-iterator.ensures.into_iter_gives, c.entries_of-entry-items.ensures.left)
-    (starts a.segment.now a.width a.number a.base a.first a.key)
+    rw (c.into_iter-passed-iterator.ensures.into_iter_gives, c.enumerate-passed-items.ensures.source, c.enumerate-passed-items.ensures.count, c.entries_of.ensures.left)
+    (counted a.segment.now a.width a.number a.base a.first a.key)
 
 pub returns-then-slot_keyed : goal.returns-then-slot_keyed
 returns-then-slot_keyed c =
     let e = c.in-Some.entry.words.now in
-    rw (c.status.ensures, c.blocks-then-slot_keyed.ensures, c.date.ensures)
-    (hits c.loop-entry.invariant e _ c.in-Some.ensures.steps (sym c.slot_keyed.ensures ∙ c.if-slot_keyed.true))
+    let steps = c.in-Some.ensures.steps in
+    rw (steps.1, c.status.ensures, c.blocks-then-slot_keyed.ensures, c.date.ensures)
+    (hits c.loop-passed.invariant e _ steps.0 (sym c.slot_keyed.ensures ∙ c.if-slot_keyed.true))
 
-pub loop-entry-preserved : goal.loop-entry-preserved
-loop-entry-preserved c =
+pub loop-passed-preserved : goal.loop-passed-preserved
+loop-passed-preserved c =
     let e = c.in-Some.entry.words.now in
-    let small : c.blocks-in-loop-entry.result ≤ 65535 = omega (arith, c.blocks-in-loop-entry.type_inv) in
-    rw c.blocks-in-loop-entry.ensures
-    (passes c.loop-entry.invariant e _ c.in-Some.ensures.steps (sym c.slot_keyed.ensures ∙ c.if-slot_keyed.false) (rw c.blocks-in-loop-entry.ensures at small))
+    let steps = c.in-Some.ensures.steps in
+    let small : c.blocks-in-loop-passed.result ≤ 65535 = omega (arith, c.blocks-in-loop-passed.type_inv) in
+    rw (steps.2, c.blocks-in-loop-passed.ensures)
+    (counted_on _ c.loop-passed.invariant e _ steps.0 (sym c.slot_keyed.ensures ∙ c.if-slot_keyed.false) (rw c.blocks-in-loop-passed.ensures at small))
 
 pub returns : goal.returns
-returns c = none_left c.loop-entry.invariant c.in-None.ensures.steps.0
+returns c = none_left c.loop-passed.invariant c.in-None.ensures.steps.0.0
