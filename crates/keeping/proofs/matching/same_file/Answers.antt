@@ -6,7 +6,8 @@ use lib.ListN.{get_or}
 use borrow.Author.Tests.{eq-eqb, ne_eqb}
 use Rattle.meaning.specs.Words.{name_of, same_name, blocks}
 use Rattle.keeping.proofs.Alike.{alike_by}
-use Rattle.keeping.proofs.matching.same_file.Goals.{Joined-x-y, Joined-status, Joined-is_named, then-x-y, else-x-y, then-status, else-status, then-is_named, else-is_named}
+use Rattle.keeping.proofs.matching.same_file.Goals.{Joined-x-y, Joined-status, Joined-is_named}
+use Rattle.keeping.proofs.matching.same_file.Goals.{then-x-y, else-x-y, then-status, else-status, then-is_named, else-is_named}
 use Rattle.keeping.proofs.matching.same_file.Goals as goal
 
 statuses : (c : Joined-x-y)
