@@ -1,14 +1,9 @@
 -- `wanted_of` meets its contract: each case of the enum is the meaning's case of that name.
 use native.Mathlib.Omega.{arith}
 use mathlib.Core.Path.{◌≡◌}
-use Prim.Native.Nat.{ℕ, ◌+◌, ◌/◌}
-use Rattle.std.specs.Int.{div_ceil}
+use Prim.Native.Nat.{◌+◌, ◌/◌}
 use Rattle.choice.specs.Asks.{wanted_by}
 use Rattle.choice.proofs.size.wanted_of.Goals as goal
-
--- a half rounded up
-half_up : (n : ℕ) → div_ceil n 2 ≡ (n + 1) / 2
-half_up n = omega arith
 
 pub returns-in-Longest : goal.returns-in-Longest
 unfolding wanted_by
@@ -16,7 +11,9 @@ returns-in-Longest c = rw c.in-Longest.is
 
 pub returns-in-Default : goal.returns-in-Default
 unfolding wanted_by
-returns-in-Default c = rw (c.in-Default.is, c.max.ensures, c.div_ceil.ensures, half_up c.args.longest)
+returns-in-Default c =
+    let half_up : c.div_ceil.result ≡ (c.args.longest + 1) / 2 = omega arith in
+    rw (c.in-Default.is, c.max.ensures, half_up)
 
 pub returns-in-Exact : goal.returns-in-Exact
 unfolding wanted_by
