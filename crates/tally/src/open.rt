@@ -13,7 +13,8 @@ fn open_in(segment: &[u16], width: usize) -> bool
     requires { (length segment.now ≡ 512) × (7 ≤ width) }
     ensures { result ≡ any_open (upto (slots width segment.now)) }
 {
-    entries_of(segment, width).any(|entry| kinds::is_tentative(entry.status()))
+    let mut entries = entries_of(segment, width);
+    entries.any(|entry| kinds::is_tentative(entry.status()))
 }
 
 // Whether an entry of the chain is.

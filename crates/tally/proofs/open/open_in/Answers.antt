@@ -11,5 +11,5 @@ use Rattle.tally.proofs.open.open_in.Goals as goal
 pub returns : goal.returns
 returns c =
     let es = upto (slots c.args.width c.args.segment.now) in
-    let road = YieldsList-from_first (λ e. e.words.now) (λ s. ahead s.width s.rest.now) es c.entries_of.ensures.left in
+    let road = YieldsList-from_first (λ e. e.words.now) (λ s. ahead s.width s.rest.now) es c.entries_of-entries.ensures.left in
     any_from_yields_List is_open c.any.new.self _ _ c.any.ensures.ran road (λ x b q k. search rules) ∙ any_is is_open es
