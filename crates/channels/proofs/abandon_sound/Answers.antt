@@ -17,5 +17,5 @@ pub returns : goal.returns
 returns c =
     let a = c.args in
     let w = c.in_ok-word.ensures in
-    rw (abandon-good a.v a.d.now c.requires a.job a.channel w.0, ← w.1)
-    (rw (told-by-number c.restate_found.result) at (c.restate_found.ensures number_of))
+    rw (abandon-good a.v a.d.now c.requires a.job a.channel w.0)
+    (simp (told-by-number c.restate_found.result, w.1) at (c.restate_found.ensures number_of))
