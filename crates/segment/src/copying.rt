@@ -21,18 +21,13 @@ pub fn put_words(source: &[u16], target: &mut [u16], place: usize) -> usize
     place + source.len()
 }
 
-// The words from `start` to `end`, moved up by so many places; those that they leave free stay as they were. The last word goes first, so that none is
-// written over before it is read. By hand: of `copy_within` the compiler makes a call of `memmove`, a name that a library for C then needs from outside.
+// The words from `start` to `end`, moved up by so many places; those that they leave free stay as they were.
 pub fn move_up(words: &mut [u16], start: usize, end: usize, by: usize)
     requires { (start ≤ end) × (end + by ≤ length words.old) }
     ensures { Written words.old (start + by) (take (end - start) (drop start words.old)) words.new
         (end + by) }
 {
-    let mut i: usize = end;
-    while start < i {
-        i -= 1;
-        words[i + by] = words[i];
-    }
+    words.copy_within(start..end, start + by);
 }
 
 // The words from `start` on, made 0.

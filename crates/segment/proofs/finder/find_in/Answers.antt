@@ -8,7 +8,8 @@ use Rattle.segment.proofs.finder.find_in.Goals as goal
 pub loop-passed-init : goal.loop-passed-init
 loop-passed-init c =
     let a = c.args in
-    rw (c.into_iter-passed-iterator.ensures.into_iter_gives, c.enumerate-passed-items.ensures.source, c.enumerate-passed-items.ensures.count, c.entries_of.ensures.left)
+    let items = c.enumerate-passed-items.ensures in
+    rw (c.into_iter-passed-iterator.ensures.into_iter_gives, items.source, items.count, c.entries_of.ensures.left)
     (counted a.segment.now a.width a.number a.base a.first a.key)
 
 pub returns-then-slot_keyed : goal.returns-then-slot_keyed
