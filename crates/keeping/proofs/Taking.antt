@@ -3,13 +3,14 @@
 use Prim.Native.Nat.{ℕ, suc, ◌+◌, ◌-◌, ◌≤◌, ◌<◌}
 use mathlib.Core.Path.{◌≡◌, refl, sym, ap, ◌∙◌}
 use mathlib.Core.Bool.{Bool, true, false, cond, ◌&&◌, ◌||◌, true≢false}
-use mathlib.Core.List.{List, [], ◌∷◌, ◌++◌, map}
+use mathlib.Core.List.{List, [], ◌∷◌, ◌++◌, map, append_assoc}
 use native.Mathlib.Omega.{arith}
 use borrow.Rule.Slice.PartMut.{put_mid, same_len_mid}
-use lib.ListN.{length, get_or, take, drop, drop_of_length-le}
-use lib.Seq.{drop-cons, drop-drop}
+use lib.ListN.{length, get_or, take, drop, set, drop_of_length-le}
+use lib.Seq.{drop-cons, drop-drop, take-suc, set-append_seam, get_or-append_seam}
+use Rattle.std.proofs.lemmas.List.{length-take-le}
 use Rattle.std.specs.Prelude.{Some, None}
-use Rattle.std.specs.List.{position_from, copy_within}
+use Rattle.std.specs.List.{position_from}
 use Rattle.bools.proofs.Bools.{both, never}
 use Rattle.meaning.specs.Sound.{any}
 use Rattle.walks.specs.Lists.{All}
@@ -58,10 +59,55 @@ module _ (p : File → Bool) where
             out = rw (e, up, more, f.out) refl;
           }
 
--- the numbers before place k moved up by one
-pub moved_up : (k : ℕ) (xs : List File) → k < length xs → drop 1 (copy_within xs 0 k 1) ≡ take (k - 0) xs ++ drop (k - 0 + 1) xs
-moved_up k [] h = absurd (omega arith)
-moved_up k (x ∷ xs) h = let e : 1 + (k - 0) ≡ k - 0 + 1 = omega arith in rw e refl
+-- The loop that hands rows on, each to the next place: k places hold the row l and the first rows, and the row that goes next is carried
+pub record HandedOn (l : File) (xs t : List File) (c : File) (k : ℕ) : Type 0 where
+  pub rows : t ≡ take k (l ∷ xs) ++ drop k xs
+  pub carried : (z : File) → get_or (l ∷ xs) k z ≡ c
+
+pub handed-first : (xs : List File) (z : File) → 0 < length xs → HandedOn (get_or xs 0 z) xs xs (get_or xs 0 z) 1
+handed-first [] z h = absurd (omega arith)
+handed-first (x ∷ xs) z h = record { rows = refl; carried = λ y. refl }
+
+module _ {l : File} {xs t : List File} {c : File} {k : ℕ} (h : HandedOn l xs t c k) (inside : k < length xs) where
+  abbrev before : List File
+  before = take k (l ∷ xs)
+
+  abbrev behind : List File
+  behind = drop (suc k) xs
+
+  place : length before ≡ k
+  place = length-take-le k (l ∷ xs) (omega arith)
+
+  now-at : (z : File) → t ≡ before ++ get_or xs k z ∷ behind
+  now-at z = h.rows ∙ ap (λ (r : List File). before ++ r) (drop-cons xs k z inside)
+
+  grown : before ++ c ∷ [] ≡ take (suc k) (l ∷ xs)
+  grown = ap (λ (y : File). before ++ y ∷ []) (sym (h.carried c)) ∙ sym (take-suc (l ∷ xs) k c (omega arith))
+
+  put-at : set (before ++ get_or xs k c ∷ behind) k c ≡ before ++ c ∷ behind
+  put-at = rw place at (set-append_seam before (get_or xs k c) behind c)
+
+  read-at : (y z : File) → get_or (before ++ get_or xs k y ∷ behind) k z ≡ get_or xs k y
+  read-at y z = rw place at (get_or-append_seam before (get_or xs k y) behind z)
+
+  pub handed_more : (z : File) → HandedOn l xs (set t k c) (get_or t k z) (k + 1)
+  handed_more z =
+      let one : k + 1 ≡ suc k = omega arith in
+      rw one
+      (record {
+        rows =
+            ap (λ (r : List File). set r k c) (now-at c)
+            ∙ put-at
+            ∙ sym (append_assoc before (c ∷ []) behind)
+            ∙ ap (λ (r : List File). r ++ behind) grown;
+        carried = λ y. sym (ap (λ (r : List File). get_or r k z) (now-at y) ∙ read-at y z);
+      })
+
+pub handed-over : (l : File) (xs t : List File) (c : File) (k : ℕ) → HandedOn l xs t c (k + 1) → drop 1 t ≡ take k xs ++ drop (k + 1) xs
+handed-over l xs t c k h =
+    let one : k + 1 ≡ suc k = omega arith in
+    let rows : t ≡ take (suc k) (l ∷ xs) ++ drop (suc k) xs = rw one at h.rows in
+    rw one (ap (drop 1) rows)
 
 -- the first alike taken out of the rows is taken out of the files that they list
 module _ (d : List ℕ) (x : File) (w : List ℕ) where

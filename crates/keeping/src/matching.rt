@@ -1,6 +1,6 @@
 // Whether two directories list the same files, each as often, in whatever order. Each file of the first is taken out of the second's table, where
 // it nearly always stands in front.
-ghost use Rattle.std.specs.Prelude.{◌≡◌, map};
+ghost use Rattle.std.specs.Prelude.{◌≡◌, ◌<◌, ◌+◌, ◌++◌, length, take, drop, map};
 ghost use Rattle.repaired.specs.Kept.{same_file, same_files};
 ghost use Rattle.walks.specs.Lists.{All};
 ghost use Rattle.keeping.specs.Tables.{Within, file_of, TakenFrom};
@@ -22,6 +22,20 @@ fn same_file(d: &[u16], x: &File, w: &[u16], y: &File) -> bool
         && p.date() == q.date()
 }
 
+// The rows before this place handed on, each to the next place; the front keeps its own. (Of `copy_within` by one place the compiler would make a call of C's
+// `memmove`, which nothing else needs: docs/LOOK-BACK.md.)
+fn hand_on(table: &mut [File], place: usize)
+    requires { place < length table.old }
+    ensures { (drop 1 table.new ≡ take place table.old ++ drop (place + 1) table.old) × (length table.new ≡ length table.old) }
+{
+    let mut carry = table[0];
+    for k in 1..place + 1 {
+        let there = table[k];
+        table[k] = carry;
+        carry = there;
+    }
+}
+
 // The first file in `w`'s table that is the one listed as `x` in `d`, taken out: those before it move up by one, and what stands in front then is
 // nobody's. Whether there is one.
 fn take_out(d: &[u16], x: &File, w: &[u16], table: &mut [File]) -> bool
@@ -31,7 +45,7 @@ fn take_out(d: &[u16], x: &File, w: &[u16], table: &mut [File]) -> bool
     let Some(place) = table.iter().position(|y| same_file(d, x, w, y)) else {
         return false;
     };
-    table.copy_within(..place, 1);
+    hand_on(table, place);
     true
 }
 

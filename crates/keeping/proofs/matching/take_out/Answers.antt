@@ -1,16 +1,16 @@
 -- `take_out` meets its contract: the first alike is at the position found, and those before it move up by one.
 use native.Mathlib.Omega.{arith}
-use mathlib.Core.Path.{◌≡◌, refl, sym, ap, ◌∙◌}
-use lib.ListN.{drop}
+use mathlib.Core.Path.{◌≡◌, refl, sym, ◌∙◌}
 use mathlib.Core.Bool.{true≢false}
-use Rattle.std.proofs.Common.{rules, tests}
+use Rattle.std.proofs.Common.{rules, tests, ℕ, ◌-◌}
+use Rattle.std.specs.Prelude.{Some}
 use Rattle.std.specs.List.{position_from}
 use Rattle.std.proofs.lemmas.Iterator.Adapters.{serves_from_places, position_from-zero}
 use Rattle.std.proofs.lemmas.Iterator.Search.{position_from_yields_List}
 use Rattle.std.proofs.lemmas.Iterator.{YieldsList-from_slice}
 use Rattle.walks.proofs.Alls.{all-at}
 use Rattle.keeping.specs.Tables.{Within, alike}
-use Rattle.keeping.proofs.Taking.{none_at, first_at, moved_up}
+use Rattle.keeping.proofs.Taking.{none_at, First, first_at}
 use Rattle.keeping.proofs.matching.take_out.Goals.{After-position}
 use Rattle.keeping.proofs.matching.take_out.Goals as goal
 
@@ -34,12 +34,17 @@ returns-in_default c =
     let none = none_at (alike a.d.now a.x.now a.w.now) 0 a.table.now (sym (spot (goal.at.returns-in_default c).After-position) ∙ c.in_default.is) in
     record { found = sym none; others = λ h. absurd (true≢false (sym h)); size = refl }
 
+-- and what is before and after it
+first : (c : After-position) (k : ℕ) → c.position.result ≡ Some k → First (alike c.args.d.now c.args.x.now c.args.w.now) 0 k c.args.table.now
+first c k e = first_at _ 0 k c.args.table.now (sym (spot c) ∙ e)
+
+pub hand_on-requires : goal.hand_on-requires
+hand_on-requires c =
+    let f = first (goal.at.hand_on-requires c).After-position c.in-Some.place c.in-Some.is in
+    omega (arith, f.inside)
+
 pub returns : goal.returns
 returns c =
-    let a = c.args in
-    let f = first_at (alike a.d.now a.x.now a.w.now) 0 c.in-Some.place a.table.now (sym (spot (goal.at.returns c).After-position) ∙ c.in-Some.is) in
-    record {
-      found = sym f.found;
-      others = λ _. ap (drop 1) c.copy_within.ensures.after ∙ moved_up c.in-Some.place a.table.now (omega (arith, f.inside)) ∙ sym f.out;
-      size = c.copy_within.ensures.len;
-    }
+    let f = first (goal.at.returns c).After-position c.in-Some.place c.in-Some.is in
+    let n : c.in-Some.place - 0 ≡ c.in-Some.place = omega arith in
+    record { found = sym f.found; others = λ _. c.hand_on.ensures.0 ∙ sym (rw n at f.out); size = c.hand_on.ensures.1 }
