@@ -78,17 +78,17 @@ module _ {l : File} {xs t : List File} {c : File} {k : ℕ} (h : HandedOn l xs t
   place : length before ≡ k
   place = length-take-le k (l ∷ xs) (omega arith)
 
-  now-at : (z : File) → t ≡ before ++ get_or xs k z ∷ behind
-  now-at z = h.rows ∙ ap (λ (r : List File). before ++ r) (drop-cons xs k z inside)
+  rows-now : (z : File) → t ≡ before ++ get_or xs k z ∷ behind
+  rows-now z = h.rows ∙ ap (λ (r : List File). before ++ r) (drop-cons xs k z inside)
 
   grown : before ++ c ∷ [] ≡ take (suc k) (l ∷ xs)
   grown = ap (λ (y : File). before ++ y ∷ []) (sym (h.carried c)) ∙ sym (take-suc (l ∷ xs) k c (omega arith))
 
-  put-at : set (before ++ get_or xs k c ∷ behind) k c ≡ before ++ c ∷ behind
-  put-at = rw place at (set-append_seam before (get_or xs k c) behind c)
+  row-put : set (before ++ get_or xs k c ∷ behind) k c ≡ before ++ c ∷ behind
+  row-put = rw place at (set-append_seam before (get_or xs k c) behind c)
 
-  read-at : (y z : File) → get_or (before ++ get_or xs k y ∷ behind) k z ≡ get_or xs k y
-  read-at y z = rw place at (get_or-append_seam before (get_or xs k y) behind z)
+  row-read : (y z : File) → get_or (before ++ get_or xs k y ∷ behind) k z ≡ get_or xs k y
+  row-read y z = rw place at (get_or-append_seam before (get_or xs k y) behind z)
 
   pub handed_more : (z : File) → HandedOn l xs (set t k c) (get_or t k z) (k + 1)
   handed_more z =
@@ -96,11 +96,11 @@ module _ {l : File} {xs t : List File} {c : File} {k : ℕ} (h : HandedOn l xs t
       rw one
       (record {
         rows =
-            ap (λ (r : List File). set r k c) (now-at c)
-            ∙ put-at
+            ap (λ (r : List File). set r k c) (rows-now c)
+            ∙ row-put
             ∙ sym (append_assoc before (c ∷ []) behind)
             ∙ ap (λ (r : List File). r ++ behind) grown;
-        carried = λ y. sym (ap (λ (r : List File). get_or r k z) (now-at y) ∙ read-at y z);
+        carried = λ y. sym (ap (λ (r : List File). get_or r k z) (rows-now y) ∙ row-read y z);
       })
 
 pub handed-over : (l : File) (xs t : List File) (c : File) (k : ℕ) → HandedOn l xs t c (k + 1) → drop 1 t ≡ take k xs ++ drop (k + 1) xs

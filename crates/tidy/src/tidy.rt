@@ -26,7 +26,8 @@ enum RunAt<'a> {
 }
 
 // An entry with the length `sum`, written to `out`. The answer is the place after it. Its words go one by one: as the entry has waited in a run, the
-// compiler can't tell that they lie apart from `out`, and would make of one copy a call of C's `memmove`, which nothing else needs (docs/LOOK-BACK.md).
+// compiler can't tell that they lie apart from `out`, and would make of one copy a call of C's `memmove`, a name that an archive of this library
+// for C needs nowhere else (docs/LOOK-BACK.md).
 fn put_run(entry: &Entry<'_>, sum: u16, out: &mut [u16], place: usize) -> usize
     requires { place + length entry.now.words.now ≤ length out.old }
     ensures { Written out.old place (set entry.now.words.now length_word sum) out.new result }
