@@ -1,4 +1,4 @@
--- A file taken out of a table, and then all of them. The first alike is found by its position, and those before it move up by one, so that a file
+-- A file taken out of a table, and then all of them. The first alike is found by its position, and the rows before it are handed on, so that a file
 -- taken out of the table is taken out of the list; and two lists of unequal length never hold the same files. Assumes nothing.
 use Prim.Native.Nat.{ℕ, suc, ◌+◌, ◌-◌, ◌≤◌, ◌<◌}
 use mathlib.Core.Path.{◌≡◌, refl, sym, ap, ◌∙◌}
@@ -103,11 +103,17 @@ module _ {l : File} {xs t : List File} {c : File} {k : ℕ} (h : HandedOn l xs t
         carried = λ y. sym (ap (λ (r : List File). get_or r k z) (rows-now y) ∙ row-read y z);
       })
 
-pub handed-over : (l : File) (xs t : List File) (c : File) (k : ℕ) → HandedOn l xs t c (k + 1) → drop 1 t ≡ take k xs ++ drop (k + 1) xs
-handed-over l xs t c k h =
+pub handed-over : (xs t : List File) (z c : File) (k : ℕ) → k < length xs → HandedOn (get_or xs 0 z) xs t c (k + 1)
+    → t ≡ take 1 xs ++ (take k xs ++ drop (k + 1) xs)
+handed-over [] t z c k i h = absurd (omega arith)
+handed-over (x ∷ xs) t z c k i h =
     let one : k + 1 ≡ suc k = omega arith in
-    let rows : t ≡ take (suc k) (l ∷ xs) ++ drop (suc k) xs = rw one at h.rows in
-    rw one (ap (drop 1) rows)
+    rw one (rw one at h.rows)
+
+-- the rows behind the front
+pub behind-front : (xs r : List File) (k : ℕ) → k < length xs → drop 1 (take 1 xs ++ r) ≡ r
+behind-front [] r k i = absurd (omega arith)
+behind-front (x ∷ xs) r k i = refl
 
 -- the first alike taken out of the rows is taken out of the files that they list
 module _ (d : List ℕ) (x : File) (w : List ℕ) where

@@ -22,11 +22,11 @@ fn same_file(d: &[u16], x: &File, w: &[u16], y: &File) -> bool
         && p.date() == q.date()
 }
 
-// The rows before this place handed on, each to the next place; what stands in front then is nobody's. (Of `copy_within` by one place the compiler would
-// make a call of C's `memmove`, a name that an archive of this library for C needs nowhere else: docs/LOOK-BACK.md.)
+// The rows before this place handed on, each to the next place; the front keeps its own. (Of `copy_within` by one place the compiler would make a call of
+// C's `memmove`, a name that an archive of this library for C needs nowhere else: docs/LOOK-BACK.md.)
 fn hand_on(table: &mut [File], place: usize)
     requires { place < length table.old }
-    ensures { (drop 1 table.new ≡ take place table.old ++ drop (place + 1) table.old) × (length table.new ≡ length table.old) }
+    ensures { table.new ≡ take 1 table.old ++ (take place table.old ++ drop (place + 1) table.old) }
 {
     let mut carry = table[0];
     for k in 1..place + 1 {

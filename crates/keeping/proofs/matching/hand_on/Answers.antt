@@ -15,4 +15,4 @@ loop-k-preserved c =
 pub returns : goal.returns
 returns c =
     let turns : c.loop-k.k ≡ c.args.place + 1 = omega (arith, c.loop-k.auto.k-end, c.loop-k-test.false) in
-    (handed-over _ c.args.table.now c.loop-k.table _ c.args.place (rw turns at c.loop-k.invariant), c.loop-k.auto.table)
+    handed-over c.args.table.now c.loop-k.table _ _ c.args.place c.requires (rw turns at c.loop-k.invariant)

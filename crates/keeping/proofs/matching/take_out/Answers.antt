@@ -1,6 +1,8 @@
 -- `take_out` meets its contract: the first alike is at the position found, and those before it move up by one.
 use native.Mathlib.Omega.{arith}
-use mathlib.Core.Path.{◌≡◌, refl, sym, ◌∙◌}
+use mathlib.Core.Path.{◌≡◌, refl, sym, ap, ◌∙◌}
+use lib.ListN.{length, drop}
+use Prim.Native.Nat.{◌<◌}
 use mathlib.Core.Bool.{true≢false}
 use Rattle.std.proofs.Common.{rules, tests, ℕ, ◌-◌}
 use Rattle.std.specs.Prelude.{Some}
@@ -10,7 +12,7 @@ use Rattle.std.proofs.lemmas.Iterator.Search.{position_from_yields_List}
 use Rattle.std.proofs.lemmas.Iterator.{YieldsList-from_slice}
 use Rattle.walks.proofs.Alls.{all-at}
 use Rattle.keeping.specs.Tables.{Within, alike}
-use Rattle.keeping.proofs.Taking.{none_at, First, first_at}
+use Rattle.keeping.proofs.Taking.{none_at, First, first_at, behind-front}
 use Rattle.keeping.proofs.matching.take_out.Goals.{After-position}
 use Rattle.keeping.proofs.matching.take_out.Goals as goal
 
@@ -45,6 +47,12 @@ hand_on-requires c =
 
 pub returns : goal.returns
 returns c =
+    let a = c.args in
     let f = first (goal.at.returns c).After-position c.in-Some.place c.in-Some.is in
     let n : c.in-Some.place - 0 ≡ c.in-Some.place = omega arith in
-    record { found = sym f.found; others = λ _. c.hand_on.ensures.0 ∙ sym (rw n at f.out); size = c.hand_on.ensures.1 }
+    let inside : c.in-Some.place < length a.table.now = omega (arith, f.inside) in
+    record {
+      found = sym f.found;
+      others = λ _. ap (drop 1) c.hand_on.ensures ∙ behind-front a.table.now _ c.in-Some.place inside ∙ sym (rw n at f.out);
+      size = c.hand_on.auto.table;
+    }
